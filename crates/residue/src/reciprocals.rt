@@ -1,0 +1,51 @@
+// Reciprocals modulo p, from a table filled once for each p by counting (document 01, "Words and orders").
+ghost use mathlib.Core.Path.{_≡_};
+ghost use Prim.Native.Nat.{_<_};
+ghost use Rattle.residue.specs.Prime.{Modulus};
+ghost use Rattle.residue.specs.Modular.{product};
+ghost use Rattle.residue.specs.Reciprocals.{Serves};
+use crate::Residue;
+use crate::prime::LARGEST_MODULUS;
+
+pub struct Reciprocals {
+    pub p: u16,
+    pub table: [u16; LARGEST_MODULUS as usize],
+}
+
+// The reciprocal of a: b counts up from 1, with a·b beside it, until a·b is 1.
+fn counted(a: Residue, p: u16) -> Residue
+    requires { ⌜ Modulus p × (0 < a .0) × (a .0 < p) ⌝ }
+    ensures { λ r. ⌜ (product p (a .0) (r .0) ≡ 1) × (r .0 < p) ⌝ }
+{
+    let mut b: u16 = 1;
+    let mut multiple = a;
+    while multiple.0 != 1 {
+        b += 1;
+        multiple = multiple.add(a, p);
+    }
+    Residue(b)
+}
+
+impl Reciprocals {
+    pub fn new(p: u16) -> Reciprocals
+        requires { ⌜ Modulus p ⌝ }
+        ensures { λ r. ⌜ (r .p ≡ p) × Serves r ⌝ }
+    {
+        let mut table = [0u16; LARGEST_MODULUS as usize];
+        let mut a: u16 = 1;
+        while a < p {
+            table[a as usize] = counted(Residue(a), p).0;
+            a += 1;
+        }
+        Reciprocals { p, table }
+    }
+
+    pub fn of(self, a: Residue) -> Residue
+        requires { ⌜ Serves self × (0 < a .0) × (a .0 < self .p) ⌝ }
+        ensures { λ r. ⌜ (product (self .p) (a .0) (r .0) ≡ 1) × (r .0 < self .p) ⌝ }
+    {
+        let at = a.0 as usize;
+        let b = self.table[at];
+        Residue(b)
+    }
+}
