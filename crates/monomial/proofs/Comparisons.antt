@@ -11,7 +11,7 @@
 --   then-equal           Equal says: equal and then Equal
 --   otherwise            the second case of such a statement, replaced part by part
 --   Below f R            smaller by the number f and, where it is equal, by the relation R
---   below-well-founded   that is well-founded if R is
+--   below-wf   that is well-founded if R is
 --   comparison-order     a three-way comparison that gives a monomial ordering
 use mathlib.Core.Path.{_≡_, refl, _∙_, subst}
 use mathlib.Core.Logic.{_↔_, _⊎_, inl, inr, ⊎-elim, ⊎-map}
@@ -119,8 +119,8 @@ module _ {M : Type 0} (f : M → ℕ) {R : M → M → Type 0} (wf : WellFounded
   at-every-value : {k : ℕ} → Acc _<_ k → (a : M) → f a ≡ k → Acc (Below f R) a
   at-every-value (Acc·intro k h) a e = at-value k (λ b l. at-every-value (h (f b) l) b refl) (wf .apply a) e
 
-  pub below-well-founded : WellFounded (Below f R)
-  below-well-founded = record { apply = λ a. at-every-value (Nat·lt-wfRel .wf .apply (f a)) a refl }
+  pub below-wf : WellFounded (Below f R)
+  below-wf = record { apply = λ a. at-every-value (Nat·lt-wfRel .wf .apply (f a)) a refl }
 
 -- It calls only equals equal, turns round with its arguments, is unchanged by products, and is well-founded.
 module _ {M : Type 0} (𝓜 : Monomials M) (compare : M → M → Comparison) where

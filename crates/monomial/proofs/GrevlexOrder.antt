@@ -21,7 +21,7 @@ use Rattle.monomial.specs.Ordering.{MonomialOrder, rows, Before}
 use Rattle.monomial.specs.declared.order.Comparison.the-variants.{Less, Equal, Greater}
 use Rattle.monomial.proofs.Products.{degree-product}
 use Rattle.monomial.proofs.Comparisons.{compared-equal, compared-sum, equal-not-less, equal-not-greater}
-use Rattle.monomial.proofs.Comparisons.{then, then-less, then-equal, then-greater, otherwise, Below, below-well-founded, comparison-order}
+use Rattle.monomial.proofs.Comparisons.{then, then-less, then-equal, then-greater, otherwise, Below, below-wf, comparison-order}
 use Rattle.monomial.proofs.LexOrder.{lex-cons-less, lex-cons-greater, lex-flip, lex-equal, lex-product, backwards-rank}
 
 module _ (n : ℕ) (a b : Row n) where
@@ -72,23 +72,23 @@ abbrev Reversed : (n k : ℕ) → Row n → Row n → Type 0
 Reversed n k a b = (prefixSum n k a ≡ prefixSum n k b) × (lex n (backwards k) b a ≡ Less)
 
 -- Grevlex is lex on the prefix sums, last one first: at equal sums of the first k + 1 exponents, a larger exponent k is a smaller sum of the first k.
-reversed-well-founded : (n k : ℕ) → WellFounded (Reversed n k)
+reversed-wf : (n k : ℕ) → WellFounded (Reversed n k)
 unfolding lex backwards
-reversed-well-founded n zero = record { apply = λ a. Acc·intro a (λ b p. absurd (equal-not-less (p .1))) }
-reversed-well-founded n (suc k) = Subrelation·wf smaller (below-well-founded (prefixSum n k) (reversed-well-founded n k))
+reversed-wf n zero = record { apply = λ a. Acc·intro a (λ b p. absurd (equal-not-less (p .1))) }
+reversed-wf n (suc k) = Subrelation·wf smaller (below-wf (prefixSum n k) (reversed-wf n k))
   where
     smaller : (a b : Row n) → Reversed n (suc k) a b → Below (prefixSum n k) (Reversed n k) a b
     smaller a b (e, l) = ⊎-map (λ h. omega arith) (λ p. let q : prefixSum n k a ≡ prefixSum n k b = omega arith in (q, (q, p .1))) (lex-cons-less n k (backwards k) b a .0 l)
 
-grevlex-well-founded : (n : ℕ) → WellFounded (Before (grevlex n))
-grevlex-well-founded n = Subrelation·wf smaller (below-well-founded (prefixSum n n) (reversed-well-founded n n))
+grevlex-wf : (n : ℕ) → WellFounded (Before (grevlex n))
+grevlex-wf n = Subrelation·wf smaller (below-wf (prefixSum n n) (reversed-wf n n))
   where
     smaller : (a b : Row n) → grevlex n a b ≡ Less → Below (prefixSum n n) (Reversed n n) a b
     smaller a b e = rw (← degree-prefix-sum n a, ← degree-prefix-sum n b) (⊎-map (λ l. l) (λ p. (p .0, p)) (grevlex-less n a b .0 e))
 
 pub grevlex-order : (n : ℕ) → MonomialOrder (rows n) (Before (grevlex n))
 unfolding rows
-grevlex-order n = comparison-order (rows n) (grevlex n) (λ a b. grevlex-equal n a b .0) (λ a b. grevlex-flip n a b .0) (grevlex-product n) (grevlex-well-founded n)
+grevlex-order n = comparison-order (rows n) (grevlex n) (λ a b. grevlex-equal n a b .0) (λ a b. grevlex-flip n a b .0) (grevlex-product n) (grevlex-wf n)
 
 -- Of the first k variables, i is the last in which the exponents differ, and its exponent in a is the smaller.
 abbrev pub Rightmost : (n k : ℕ) → Row n → Row n → Type 0
