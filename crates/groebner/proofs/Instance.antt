@@ -1,0 +1,73 @@
+-- The instance (T10): residues modulo a prime, n variables, grevlex first and lex over any ranking of the variables second.
+--   ground p prime n          residues modulo p and monomials in n variables meet what the theory asks
+--   criterion                 Buchberger's criterion for a grevlex text (T3)
+--   Converted s H             what a conversion to lex over the ranking s is
+--   converted                 a Conversion of a grevlex Groebner basis is that: reduced, of the same ideal, with the standard monomials (T7), and demand 3 (T9)
+--   one-basis                 there is one such basis in rising order (T8)
+use mathlib.Core.Path.{_≡_}
+use mathlib.Core.List.{List}
+use mathlib.Core.Logic.{_↔_}
+use Prim.Native.Nat.{ℕ}
+use Rattle.residue.specs.Prime.{Prime}
+use Rattle.residue.specs.Field.{Arithmetic, ZMod, modulo}
+use Rattle.residue.proofs.ResidueField.{residue-field}
+use Rattle.monomial.specs.Rows.{Row}
+use Rattle.monomial.specs.Orders.{Ranks}
+use Rattle.monomial.specs.Ordering.{rows, Lex, Grevlex}
+use Rattle.monomial.proofs.Products.{rows-laws}
+use Rattle.monomial.proofs.LexOrder.{lex-order}
+use Rattle.monomial.proofs.GrevlexOrder.{grevlex-order}
+use Rattle.groebner.specs.Lines.{Line, Lines, Reducible, Rising}
+use Rattle.groebner.specs.Ideals.{SameIdeal}
+use Rattle.groebner.specs.Bases.{Groebner, Reduced, Buchberger}
+use Rattle.groebner.specs.Standard.{Standard, Conversion}
+use Rattle.groebner.specs.Systems.{Equivalent}
+use Rattle.groebner.proofs.Ground.{PolynomialRing}
+use Rattle.groebner.proofs.Division.{Low}
+use Rattle.groebner.proofs.Buchberger.{buchberger}
+use Rattle.groebner.proofs.ChangeOfOrder.{conversion-ideal, conversion-standard, conversion-reduced}
+use Rattle.groebner.proofs.Uniqueness.{unique-basis}
+use Rattle.groebner.proofs.Equivalence.{equivalent}
+
+module _ (p : ℕ) (prime : Prime p) (n : ℕ) where
+  abbrev F : Type 0
+  F = ZMod p
+
+  abbrev R : Arithmetic F
+  R = modulo p (prime .above-one)
+
+  pub ground : PolynomialRing R (rows n)
+  ground = record { field = residue-field p prime; monoid = rows-laws n }
+
+  module _ (G : List (Line F (Row n))) (lines : Lines R (Grevlex n) G) where
+    pub criterion : Buchberger R (rows n) (Grevlex n) G ↔ Groebner R (rows n) (Grevlex n) G
+    criterion = buchberger ground (grevlex-order n) G (λ g q. lines .falling g q .0)
+
+    -- What a conversion to lex is.
+    pub record Converted (s : List ℕ) (H : List (Line F (Row n))) : Type 0 where
+      pub reduced : Reduced R (rows n) (Lex n s) H
+      pub ideal : SameIdeal R (rows n) G H
+      pub standard : (m : Row n) → Standard R (rows n) (Grevlex n) (Lex n s) G m ↔ (¬ Reducible (rows n) H m)
+      pub systems : Equivalent R (rows n) (record { lt = Grevlex n; lines = G }) (record { lt = Lex n s; lines = H })
+
+    pub converted : Groebner R (rows n) (Grevlex n) G → (s : List ℕ) → Ranks n s → (H : List (Line F (Row n))) → Conversion R (rows n) (Grevlex n) (Lex n s) G H → Converted s H
+    converted gb s ranks H w = record {
+      reduced = reduced;
+      ideal = ideal;
+      standard = conversion-standard ground (grevlex-order n) (lex-order n s ranks) G low gb H w;
+      systems = equivalent ground _ _ (grevlex-order n) (lex-order n s ranks) low (λ g q. reduced .lines .falling g q .0) gb (reduced .groebner) ideal;
+    }
+      where
+        low : Low (Grevlex n) G
+        low g q = lines .falling g q .0
+
+        reduced : Reduced R (rows n) (Lex n s) H
+        reduced = conversion-reduced ground (grevlex-order n) (lex-order n s ranks) G low gb H w
+
+        ideal : SameIdeal R (rows n) G H
+        ideal = conversion-ideal ground (grevlex-order n) (lex-order n s ranks) G low gb H w
+
+  -- In rising order there is one reduced lex Groebner basis of an ideal.
+  pub one-basis : (s : List ℕ) → Ranks n s → (H K : List (Line F (Row n))) → Reduced R (rows n) (Lex n s) H → Reduced R (rows n) (Lex n s) K
+      → Rising (Lex n s) H → Rising (Lex n s) K → SameIdeal R (rows n) H K → H ≡ K
+  one-basis s ranks = unique-basis ground (lex-order n s ranks)

@@ -1,0 +1,51 @@
+-- The theorems of the crate `groebner`. T1 to T13 are those that docs/MATHEMATICS.md tells.
+--   Base: Modules, Linear, Terms, Ground, Lists, Members, LinearMaps
+--   Remainders: NormalForms, Division (T1, T2)
+--   Ideals and Groebner bases: Ideals, GroebnerBases (T2, T4), SPairs, Buchberger (T3), Congruence (T4), Leads, LeadingTerms, Clear, Uniqueness (T8)
+--   Two orders: Spans, Images, OtherLines, ChangeOfOrder (T6, T7), Equivalence (T9)
+--   Elimination: Elimination, Echelon (T12), RowElimination, CoefficientRows, CoefficientElimination, Coordinates
+--   The enumeration (T11): Exponents, RisingLists, Counting, Successors, Next, ReducibleTest, Seen, Enumeration, EnumerationResult, EnumerationEnd,
+--     IrreducibleList, EnumerationUnique
+--   Instance: residues modulo a prime, n variables, grevlex and lex (T10)
+pub mod Modules
+pub mod Linear
+pub mod Terms
+pub mod Ground
+pub mod Lists
+pub mod Members
+pub mod LinearMaps
+pub mod NormalForms
+pub mod Division
+pub mod Ideals
+pub mod GroebnerBases
+pub mod SPairs
+pub mod Buchberger
+pub mod Congruence
+pub mod Leads
+pub mod LeadingTerms
+pub mod Clear
+pub mod Uniqueness
+pub mod Spans
+pub mod Images
+pub mod OtherLines
+pub mod ChangeOfOrder
+pub mod Equivalence
+pub mod Elimination
+pub mod Echelon
+pub mod RowElimination
+pub mod CoefficientRows
+pub mod CoefficientElimination
+pub mod Coordinates
+pub mod Exponents
+pub mod RisingLists
+pub mod Counting
+pub mod Successors
+pub mod Next
+pub mod ReducibleTest
+pub mod Seen
+pub mod Enumeration
+pub mod EnumerationResult
+pub mod EnumerationEnd
+pub mod IrreducibleList
+pub mod EnumerationUnique
+pub mod Instance

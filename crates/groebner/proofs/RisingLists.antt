@@ -1,0 +1,85 @@
+-- Rising lists of monomials, for any order.
+--   RisingList lt l      each element of l is smaller than all that follow it
+--   rising-append        a rising list, and a greater element at its end
+--   rising-once          no element stands twice in a rising list
+--   rising-unique        rising lists with the same elements are equal
+--   ListsRising lt P l   l lists the monomials that have P, in rising order
+--   lists-once           it lists each once
+--   lists-unique         at most one list does so
+--   leads G              the leading monomials of the lines G
+--   leads-append         those of the lines G and of one more
+--   rising-leads         lines rise by leading monomial if their leading monomials do
+use mathlib.Core.Path.{_≡_, refl, sym, _∙_, ap, ap₂, subst}
+use mathlib.Core.List.{List, [], _∷_, _++_, map, List·Memᴰ·head, List·Memᴰ·tail, List·Memᴰ·not-nil, List·Memᴰ·cases-cons, List·Memᴰ·append-cases, List·Memᴰ·eq-of-singleton}
+use mathlib.Core.Logic.{_⊎_, inl, inr}
+use Rattle.monomial.specs.Ordering.{Monomials, MonomialOrder}
+use Rattle.monomial.proofs.AnyOrder.{asymmetric, irreflexive}
+use Rattle.groebner.specs.Polynomials.{_∈_}
+use Rattle.groebner.specs.Lines.{Once, Line, Rising}
+use Rattle.groebner.specs.Standard.{Lists}
+use Rattle.groebner.proofs.Lists.{in-map}
+
+-- Each element is smaller than all that follow it.
+abbrev pub RisingList : {M : Type 0} → (M → M → Type 0) → List M → Type 0
+RisingList lt [] = Unit
+RisingList {M} lt (x ∷ l) = ((y : M) → y ∈ l → lt x y) × RisingList lt l
+
+-- The monomials that have P, in rising order.
+pub record ListsRising {M : Type 0} (lt : M → M → Type 0) (P : M → Type 0) (l : List M) : Type 0 where
+  pub rising : RisingList lt l
+  pub all : (k : M) → P k → k ∈ l
+  pub only : (k : M) → k ∈ l → P k
+
+pub rising-append : {M : Type 0} (lt : M → M → Type 0) (l : List M) (z : M) → RisingList lt l → ((y : M) → y ∈ l → lt y z) → RisingList lt (l ++ (z ∷ []))
+rising-append lt [] z r h = (λ y i. absurd (List·Memᴰ·not-nil i), tt)
+rising-append {M} lt (x ∷ l) z r h = (λ y i. at y (List·Memᴰ·append-cases l i), rising-append lt l z (r .1) (λ y i. h y (List·Memᴰ·tail i)))
+  where
+    at : (y : M) → y ∈ l ⊎ y ∈ (z ∷ []) → lt x y
+    at y (inl i) = r .0 y i
+    at y (inr i) = rw (List·Memᴰ·eq-of-singleton i) (h x (List·Memᴰ·head refl))
+
+module _ {M : Type 0} {𝓜 : Monomials M} {lt : M → M → Type 0} (ord : MonomialOrder 𝓜 lt) where
+  pub rising-once : (l : List M) → RisingList lt l → Once l
+  rising-once [] r = tt
+  rising-once (x ∷ l) r = (λ i. irreflexive ord (r .0 x i), rising-once l (r .1))
+
+  -- What stands in a list behind its first element x, and in another whose first element is x, stands behind it there too.
+  behind : (x y : M) (l k : List M) → x ≡ y → RisingList lt (x ∷ l) → ((z : M) → z ∈ (x ∷ l) → z ∈ (y ∷ k)) → (z : M) → z ∈ l → z ∈ k
+  behind x y l k e r h z i = at (List·Memᴰ·cases-cons (h z (List·Memᴰ·tail i)))
+    where
+      at : (z ≡ y) ⊎ z ∈ k → z ∈ k
+      at (inl q) = absurd (irreflexive ord (subst (lt x) (q ∙ sym e) (r .0 z i)))
+      at (inr j) = j
+
+  pub rising-unique : (l k : List M) → RisingList lt l → RisingList lt k → ((z : M) → z ∈ l → z ∈ k) → ((z : M) → z ∈ k → z ∈ l) → l ≡ k
+  rising-unique [] [] p q f g = refl
+  rising-unique [] (y ∷ k) p q f g = absurd (List·Memᴰ·not-nil (g y (List·Memᴰ·head refl)))
+  rising-unique (x ∷ l) [] p q f g = absurd (List·Memᴰ·not-nil (f x (List·Memᴰ·head refl)))
+  rising-unique (x ∷ l) (y ∷ k) p q f g = ap₂ _∷_ same (rising-unique l k (p .1) (q .1) (behind x y l k same p f) (behind y x k l (sym same) q g))
+    where
+      at : (x ≡ y) ⊎ x ∈ k → (y ≡ x) ⊎ y ∈ l → x ≡ y
+      at (inl e) _ = e
+      at (inr i) (inl e) = sym e
+      at (inr i) (inr j) = absurd (asymmetric ord (p .0 y j) (q .0 x i))
+
+      same : x ≡ y
+      same = at (List·Memᴰ·cases-cons (f x (List·Memᴰ·head refl))) (List·Memᴰ·cases-cons (g y (List·Memᴰ·head refl)))
+
+  pub lists-once : (P : M → Type 0) (l : List M) → ListsRising lt P l → Lists P l
+  lists-once P l r = record { once = rising-once l (r .rising); all = r .all; only = r .only }
+
+  pub lists-unique : (P : M → Type 0) (l k : List M) → ListsRising lt P l → ListsRising lt P k → l ≡ k
+  lists-unique P l k p q = rising-unique l k (p .rising) (q .rising) (λ z i. q .all z (p .only z i)) (λ z i. p .all z (q .only z i))
+
+module _ {F M : Type 0} where
+  -- The leading monomials of the lines.
+  abbrev pub leads : List (Line F M) → List M
+  leads G = map (λ g. g .0) G
+
+  pub leads-append : (G : List (Line F M)) (g : Line F M) → leads (G ++ (g ∷ [])) ≡ leads G ++ (g .0 ∷ [])
+  leads-append [] g = refl
+  leads-append (h ∷ G) g = ap (_∷_ (h .0)) (leads-append G g)
+
+  pub rising-leads : (lt : M → M → Type 0) (G : List (Line F M)) → RisingList lt (leads G) → Rising lt G
+  rising-leads lt [] r = tt
+  rising-leads lt (g ∷ G) r = (λ h i. r .0 (h .0) (in-map (λ g. g .0) i), rising-leads lt G (r .1))

@@ -1,0 +1,15 @@
+-- The definitions of the crate `groebner`, worded after documents 01 and 001:
+--   Polynomials   polynomials as lists of terms; sums and products
+--   Lines         lists of monic lines with an order; divisibility by their leading monomials
+--   Remainders    the remainder by a list of lines
+--   Ideals        the ideal of a list of lines
+--   Bases         Groebner bases, reduced Groebner bases, S-polynomials
+--   Standard      zero-dimensional lists of lines; standard monomials
+--   Systems       reduction systems (document 01: calculators), and what two of them share
+pub mod Polynomials
+pub mod Lines
+pub mod Remainders
+pub mod Ideals
+pub mod Bases
+pub mod Standard
+pub mod Systems
