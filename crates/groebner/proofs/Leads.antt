@@ -1,6 +1,6 @@
 -- Leading monomials: of polynomials with the greatest term first, and of lines.
 --   coef-over, coef-head, coef-past   coefficients at and above the greatest term
---   written                           with the greatest term first, a polynomial is written in one way
+--   falling-unique                    with the greatest term first, a polynomial is written in one way
 --   low, leading-line, ideal-line     a line: its tail, its leading monomial, its place in the ideal
 --   leading-unique                    a polynomial has one leading monomial
 use mathlib.Core.Path.{_≡_, refl, sym, _∙_, ap, ap₂, subst}
@@ -34,11 +34,11 @@ module _ {F M : Type 0} {R : Arithmetic F} (ring : Ring R) {𝓜 : Monomials M} 
   coef-past t f k a w = coef-there ring 𝓜 t f k (λ e. irreflexive ord (subst (λ z. lt z k) (sym e) w)) ∙ coef-over f (t .1) k a (inr w)
 
   -- With the greatest term first, a polynomial is written in one way.
-  pub written : (f g : Poly F M) → Falling lt f → Falling lt g → Polynomial R f → Polynomial R g → Same R 𝓜 f g → f ≡ g
-  written [] [] a b p q h = refl
-  written [] (t ∷ g) a b p q h = absurd (q .0 (sym (coef-head t g (b .0)) ∙ sym (h (t .1)) ∙ coef-nil ring 𝓜 (t .1)))
-  written (t ∷ f) [] a b p q h = absurd (p .0 (sym (coef-head t f (a .0)) ∙ h (t .1) ∙ coef-nil ring 𝓜 (t .1)))
-  written (t ∷ f) (s ∷ g) a b p q h = go (ord .total (t .1) (s .1)) (written f g (a .1) (b .1) (p .2) (q .2))
+  pub falling-unique : (f g : Poly F M) → Falling lt f → Falling lt g → Polynomial R f → Polynomial R g → Same R 𝓜 f g → f ≡ g
+  falling-unique [] [] a b p q h = refl
+  falling-unique [] (t ∷ g) a b p q h = absurd (q .0 (sym (coef-head t g (b .0)) ∙ sym (h (t .1)) ∙ coef-nil ring 𝓜 (t .1)))
+  falling-unique (t ∷ f) [] a b p q h = absurd (p .0 (sym (coef-head t f (a .0)) ∙ h (t .1) ∙ coef-nil ring 𝓜 (t .1)))
+  falling-unique (t ∷ f) (s ∷ g) a b p q h = go (ord .total (t .1) (s .1)) (falling-unique f g (a .1) (b .1) (p .2) (q .2))
     where
       go : lt (t .1) (s .1) ⊎ ((t .1 ≡ s .1) ⊎ lt (s .1) (t .1)) → (Same R 𝓜 f g → f ≡ g) → t ∷ f ≡ s ∷ g
       go (inl w) r = absurd (q .0 (sym (coef-head s g (b .0)) ∙ sym (h (s .1)) ∙ coef-past t f (s .1) (a .0) w))

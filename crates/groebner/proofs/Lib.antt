@@ -5,9 +5,9 @@
 --   Two orders: Spans, Images, OtherLines, ChangeOfOrder (T6, T7), Equivalence (T9)
 --   Zero dimension (T5): Powers, Decisions, ZeroDimension
 --   Multiplication rows (T13): Variables, DotProducts, Places, ClearLines, NormalCoefficients, Commute, MultiplicationRows
---   Elimination: Elimination, Echelon (T12), RowElimination, CoefficientRows, CoefficientElimination, Coordinates
+--   Elimination: Elimination, Echelon (T12), RowElimination, CoefficientRows, CoefficientElimination, Coordinates, ImageCoordinates
 --   The enumeration (T11): Exponents, RisingLists, Counting, Successors, Next, ReducibleTest, Seen, Enumeration, EnumerationResult, EnumerationEnd,
---     IrreducibleList, EnumerationUnique
+--     IrreducibleList, EnumerationUnique; its outcome: OrderedTails, EnumerationBasis, EnumerationOutcome (T12)
 --   Instance: residues modulo a prime, n variables, grevlex and lex (T10)
 pub mod Modules
 pub mod Linear
@@ -48,6 +48,7 @@ pub mod RowElimination
 pub mod CoefficientRows
 pub mod CoefficientElimination
 pub mod Coordinates
+pub mod ImageCoordinates
 pub mod Exponents
 pub mod RisingLists
 pub mod Counting
@@ -60,4 +61,7 @@ pub mod EnumerationResult
 pub mod EnumerationEnd
 pub mod IrreducibleList
 pub mod EnumerationUnique
+pub mod OrderedTails
+pub mod EnumerationBasis
+pub mod EnumerationOutcome
 pub mod Instance

@@ -21,7 +21,7 @@ use Rattle.groebner.proofs.Ground.{PolynomialRing, not-below, divides-a
 use Rattle.groebner.proofs.Division.{rewriting}
 use Rattle.groebner.proofs.Ideals.{member-of-ideal, ideal-of-member}
 use Rattle.groebner.proofs.GroebnerBases.{zero-of-finished}
-use Rattle.groebner.proofs.Leads.{coef-over, coef-head, written, low, leading-line, ideal-line}
+use Rattle.groebner.proofs.Leads.{coef-over, coef-head, falling-unique, low, leading-line, ideal-line}
 
 module _ {F M : Type 0} {R : Arithmetic F} {𝓜 : Monomials M} {lt : M → M → Type 0} (𝓟 : PolynomialRing R 𝓜) (ord : MonomialOrder 𝓜 lt) where
   open Arithmetic R using (zero as 𝟘, one as 𝟙, add, neg)
@@ -65,7 +65,7 @@ module _ {F M : Type 0} {R : Arithmetic F} {𝓜 : Monomials M} {lt : M → M �
   module _ (G H : List (Line F M)) (rG : Reduced R 𝓜 lt G) (rH : Reduced R 𝓜 lt H) (same : SameIdeal R 𝓜 G H) where
     same-line : (g h : Line F M) → g ∈ G → h ∈ H → g .0 ≡ h .0 → g ≡ h
     unfolding polynomial self
-    same-line g h p q e = ap₂ (λ (x : M) (y : Poly F M). (x, y)) e (written ring ord (g .1) (h .1) (rG .lines .falling g p .1) (rH .lines .falling h q .1) (rG .lines .proper g p) (rH .lines .proper h q) tails)
+    same-line g h p q e = ap₂ (λ (x : M) (y : Poly F M). (x, y)) e (falling-unique ring ord (g .1) (h .1) (rG .lines .falling g p .1) (rH .lines .falling h q .1) (rG .lines .proper g p) (rH .lines .proper h q) tails)
       where
         raw : Poly F M
         raw = minus R (polynomial R g) (polynomial R h)
