@@ -22,7 +22,7 @@ use Rattle.groebner.proofs.Ground.{PolynomialRing}
 use Rattle.groebner.proofs.Division.{Place, Low, rewriting, reducible?}
 use Rattle.groebner.proofs.Ideals.{ideal-same, member-of-ideal, ideal-of-member}
 use Rattle.groebner.proofs.GroebnerBases.{groebner-NF, ideal-of-zero}
-use Rattle.groebner.proofs.Leads.{written}
+use Rattle.groebner.proofs.Leads.{falling-unique}
 use Rattle.groebner.proofs.Spans.{Dependent, dependent-multiple, dependent-up, independent}
 use Rattle.groebner.proofs.Images.{𝓕, image, image-NF, standard-iff, image-equation, image-shifts}
 use Rattle.groebner.proofs.OtherLines.{same-ideal, groebner-by-freedom}
@@ -97,7 +97,7 @@ module _ {F M : Type 0} {R : Arithmetic F} {𝓜 : Monomials M} {lt lt′ : M �
     -- Two lines with the same lead are equal: their difference is a combination of standard monomials.
     same-lead : (g h : Line F M) → g ∈ H → h ∈ H → g .0 ≡ h .0 → g ≡ h
     unfolding polynomial negate self
-    same-lead g h p q e = ap₂ (λ (x : M) (y : Poly F M). (x, y)) e (written ring ord′ (g .1) (h .1) (lines .falling g p .1) (lines .falling h q .1) (lines .proper g p) (lines .proper h q)
+    same-lead g h p q e = ap₂ (λ (x : M) (y : Poly F M). (x, y)) e (falling-unique ring ord′ (g .1) (h .1) (lines .falling g p .1) (lines .falling h q .1) (lines .proper g p) (lines .proper h q)
         (λ k. equal-of-difference (self ring) _ _ (sym (coef-minus ring 𝓜 (g .1) (h .1) k) ∙ standard-independent (minus R (g .1) (h .1)) (all-append (tails g p) (all-scale R (neg 𝟙) (tails h q))) gone k)))
       where
         value : (k : M) → coef R 𝓜 (minus R (g .1) (h .1)) k ≡ add (coef R 𝓜 (polynomial R g) k) (neg (coef R 𝓜 (polynomial R h) k))
