@@ -9,6 +9,7 @@
 --   The enumeration (T11): Exponents, RisingLists, Counting, Successors, Next, ReducibleTest, Seen, Enumeration, EnumerationResult, EnumerationEnd,
 --     IrreducibleList, EnumerationUnique; its outcome: OrderedTails, EnumerationBasis, EnumerationOutcome (T12)
 --   Instance: residues modulo a prime, n variables, grevlex and lex (T10)
+--   Document 01's example: Deciding, Computing, Witnesses, Example, Cases, ConversionCases
 pub mod Modules
 pub mod Linear
 pub mod Terms
@@ -65,3 +66,9 @@ pub mod OrderedTails
 pub mod EnumerationBasis
 pub mod EnumerationOutcome
 pub mod Instance
+pub mod Deciding
+pub mod Computing
+pub mod Witnesses
+pub mod Example
+pub mod Cases
+pub mod ConversionCases
