@@ -1,0 +1,73 @@
+-- The loop of `read_terms` and of `read_rows`, over plain lists: fields up to LF.
+--   tab-got        what stands after a tab
+--   fields-more, fields-bad, fields-end   one turn of the reader of fields
+--   Inv            what holds at the loop's head: the fields so far, and what is left to read
+--   start, turn    it holds where the loop begins, and again after a field more
+--   stop           no tab stands there: LF ends the line
+--   no-field       a tab stands there, and no field
+use Prim.Native.Nat.{ℕ, zero, suc, _+_, _≤_, _<_}
+use mathlib.Core.Path.{_≡_, refl, _∙_}
+use mathlib.Core.List.{List, [], _∷_, _++_}
+use mathlib.Core.Bool.{true, false}
+use native.Mathlib.Omega.{arith}
+use lib.ListN.{length, drop, length-drop}
+use Rattle.tabtext.specs.Text.{Bytes}
+use Rattle.tabtext.specs.Readers.{got, bad, Reader, pure, _>>_, startsWith, readByte, moreFields, readFields}
+use Rattle.tabtext.specs.Answers.{NextSays}
+use Rattle.tabtext.specs.declared.terms.Next.{Next}
+use Rattle.tabtext.specs.declared.terms.Next.the-variants.{At, Bad}
+use Rattle.tabtext.proofs.Steps.{then-got, then-bad, after-got, after-bad}
+use Rattle.tabtext.proofs.Places.{byte-got}
+
+-- What stands after a tab.
+pub tab-got : {A : Type 0} (r : Reader A) (s : Bytes) (i : ℕ) → startsWith 9 (drop i s) ≡ true → _>>_ (readByte 9) r (drop i s) ≡ r (drop (i + 1) s)
+tab-got r s i e = after-got _ _ _ (byte-got 9 s i e)
+
+module _ {A : Type 0} (one : Reader A) where
+  pub fields-more : (f : ℕ) (l : List A) (s : Bytes) {a : A} {rest : Bytes} → startsWith 9 s ≡ true → one s ≡ got a rest →
+      moreFields (suc f) one l s ≡ moreFields f one (l ++ (a ∷ [])) rest
+  unfolding moreFields
+  fields-more f l s e q = rw (moreFields, e) (then-got _ _ _ q)
+
+  pub fields-bad : (f : ℕ) (l : List A) (s : Bytes) → startsWith 9 s ≡ true → one s ≡ bad → moreFields f one l s ≡ bad
+  unfolding moreFields
+  fields-bad zero l s e q = refl
+  fields-bad (suc f) l s e q = rw (moreFields, e) (then-bad _ _ _ q)
+
+  pub fields-end : (f : ℕ) (l : List A) (s : Bytes) → startsWith 9 s ≡ false → moreFields (suc f) one l s ≡ _>>_ (readByte 10) (pure l) s
+  unfolding moreFields
+  fields-end f l s e = rw (moreFields, e)
+
+  pub record Inv (s : Bytes) (at i : ℕ) : Type 0 where
+    pub bound : ℕ
+    pub fields : List A
+    pub rest : readFields one (drop at s) ≡ moreFields (suc bound) one fields (drop i s)
+    pub enough : length s ≤ bound + i
+    pub after : at ≤ i
+
+  module _ (s : Bytes) (at : ℕ) where
+    pub start : Inv s at at
+    unfolding readFields
+    start = record { bound = length (drop at s); fields = []; rest = refl; enough = omega (arith, length-drop at s); after = omega arith }
+
+    module _ (i : ℕ) (inv : Inv s at i) where
+      pub turn : {a : A} {k : ℕ} → startsWith 9 (drop i s) ≡ true → one (drop i s) ≡ got a (drop k s) → i < k → k ≤ length s → Inv s at k
+      turn {a} {k} e q h b = go (inv .bound) (inv .rest) (inv .enough)
+        where
+          go : (f : ℕ) → readFields one (drop at s) ≡ moreFields (suc f) one (inv .fields) (drop i s) → length s ≤ f + i → Inv s at k
+          go zero r m = absurd (omega arith)
+          go (suc f) r m = record {
+            bound = f;
+            fields = inv .fields ++ (a ∷ []);
+            rest = r ∙ fields-more (suc f) (inv .fields) (drop i s) e q;
+            enough = omega arith;
+            after = omega (arith, inv .after);
+          }
+
+      pub no-field : startsWith 9 (drop i s) ≡ true → one (drop i s) ≡ bad → readFields one (drop at s) ≡ bad
+      no-field e q = inv .rest ∙ fields-bad (suc (inv .bound)) (inv .fields) (drop i s) e q
+
+      pub stop : (r : Next) → startsWith 9 (drop i s) ≡ false → NextSays (readByte 10) s i r → NextSays (readFields one) s at r
+      unfolding pure
+      stop (At k) e h = (inv .fields, inv .rest ∙ fields-end (inv .bound) (inv .fields) (drop i s) e ∙ after-got _ _ _ (h .1), omega (arith, inv .after, h .2), h .3)
+      stop Bad e h = inv .rest ∙ fields-end (inv .bound) (inv .fields) (drop i s) e ∙ after-bad _ _ _ h
