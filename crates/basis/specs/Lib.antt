@@ -1,0 +1,7 @@
+-- The definitions of the crate `basis`:
+--   Checks     checks 2 to 11 of document 01, line by line, in its order
+--   Refusals   the number of each refusal
+--   Answers    the basis that a value of the code holds, and what the reader's answer says
+pub mod Checks
+pub mod Refusals
+pub mod Answers

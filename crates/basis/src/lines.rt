@@ -1,0 +1,150 @@
+// The lines of a text in turn: checks 2 to 11.
+ghost use mathlib.Core.Path.{_≡_};
+ghost use Prim.Native.Nat.{_≤_, _<_};
+ghost use lib.ListN.{length, drop};
+ghost use Rattle.monomial.specs.Sizes.{«most-variables»};
+ghost use Rattle.tabtext.specs.Sizes.{«most-lines»};
+ghost use Rattle.basis.specs.Answers.{EndSays, LineSays, LinesSays, BasisSays};
+ghost use Rattle.basis.specs.declared.Verdict.the-variants.{Refused};
+use crate::Basis;
+use crate::BasisRead;
+use crate::Verdict;
+use crate::generator::empty;
+use crate::generator::read_generator;
+use crate::header::check_header;
+use crate::refusal::Check;
+use crate::refusal::Refusal;
+use tabtext::print::Generator;
+use tabtext::record::Kind;
+use tabtext::record::Read;
+use tabtext::record::read_record;
+use tabtext::sizes::MAX_LINES;
+
+// After a line: the text goes on at a place, or the verdict.
+pub enum Turn {
+    Next(usize),
+    Stop(Verdict),
+}
+
+// What a line after the basis line says, and its terms if the text goes on.
+pub struct LineRead {
+    pub turn: Turn,
+    pub generator: Generator,
+}
+
+// The end line after k poly lines, after which the text goes on at `next`.
+fn check_end(text: &[u8], count: u32, next: usize, k: usize) -> Verdict
+    requires { ⌜ k ≤ most-lines ⌝ }
+    ensures { λ r. ⌜ EndSays k count (drop next (now (text .entry))) r ⌝ }
+{
+    if count as usize != k {
+        return Verdict::Refused(Refusal::WrongCount, k + 2);
+    }
+    if next < text.len() {
+        return Verdict::Refused(Refusal::Malformed, k + 3);
+    }
+    Verdict::Passed
+}
+
+// The line at a place, after k poly lines.
+fn read_line(text: &[u8], at: usize, p: u16, n: usize, k: usize) -> LineRead
+    requires { ⌜ (n ≤ most-variables) × (0 < p) × (at ≤ length (now text)) × (k ≤ most-lines) ⌝ }
+    ensures { λ r. ⌜ LineSays p n k (now (text .entry)) at (r .turn) (r .generator) ⌝ }
+{
+    let bad = Turn::Stop(Verdict::Refused(Refusal::Malformed, k + 2));
+    let Read::Found(record, next) = read_record(text, at, n, k + 2) else {
+        return LineRead {
+            turn: bad,
+            generator: empty(),
+        };
+    };
+    let kind = record.kind;
+    match kind {
+        Kind::Terms(span) => {
+            let g = read_generator(text, span.start, p, n, k + 1);
+            let check = g.check;
+            let generator = g.generator;
+            match check {
+                Check::Pass => LineRead {
+                    turn: Turn::Next(next),
+                    generator,
+                },
+                Check::Refuse(r) => LineRead {
+                    turn: Turn::Stop(Verdict::Refused(r, k + 2)),
+                    generator,
+                },
+            }
+        }
+        Kind::End(count) => LineRead {
+            turn: Turn::Stop(check_end(text, count, next, k)),
+            generator: empty(),
+        },
+        _ => LineRead {
+            turn: bad,
+            generator: empty(),
+        },
+    }
+}
+
+// The lines after the basis line, which stand from `start` on.
+fn read_lines(text: &[u8], start: usize, p: u16, n: usize) -> BasisRead
+    requires { ⌜ (n ≤ most-variables) × (0 < p) × (start ≤ length (now text)) ⌝ }
+    ensures { λ r. ⌜ LinesSays p n (drop start (now (text .entry))) (r .verdict) (r .basis) ⌝ }
+{
+    let mut b = Basis {
+        p,
+        n,
+        lines: 0,
+        generators: [empty(); MAX_LINES],
+    };
+    let mut at = start;
+    loop {
+        let l = read_line(text, at, p, n, b.lines);
+        let turn = l.turn;
+        match turn {
+            Turn::Next(i) => {
+                let k = b.lines;
+                let g = l.generator;
+                b.generators[k] = g;
+                b.lines = k + 1;
+                at = i;
+            }
+            Turn::Stop(verdict) => {
+                return BasisRead { verdict, basis: b };
+            }
+        }
+    }
+}
+
+// A refused text.
+fn refused(r: Refusal, line: usize) -> BasisRead
+    ensures { λ b. ⌜ b .verdict ≡ Refused r line ⌝ }
+{
+    BasisRead {
+        verdict: Verdict::Refused(r, line),
+        basis: Basis {
+            p: 0,
+            n: 0,
+            lines: 0,
+            generators: [empty(); MAX_LINES],
+        },
+    }
+}
+
+// The basis that a text holds, or its refusal: checks 2 to 11.
+pub fn read_basis(text: &[u8]) -> BasisRead
+    ensures { λ r. ⌜ BasisSays (now (text .entry)) (r .verdict) (r .basis) ⌝ }
+{
+    let Read::Found(record, next) = read_record(text, 0, 0, 1) else {
+        return refused(Refusal::Malformed, 1);
+    };
+    let kind = record.kind;
+    let Kind::Header(h) = kind else {
+        return refused(Refusal::Malformed, 1);
+    };
+    let check = check_header(text, h);
+    match check {
+        Check::Pass => read_lines(text, next, h.p as u16, h.n as usize),
+        Check::Refuse(r) => refused(r, 1),
+    }
+}
