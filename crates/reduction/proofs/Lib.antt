@@ -1,0 +1,42 @@
+-- The laws of the crate `reduction`.
+-- Places:
+--   Elements            elements of a list by their places
+--   ArrayElements       what the logic knows of each element of an array
+--   ArrayRows           the rows of exponents that arrays of monomials hold
+--   RowsInTurn          the rows of the first monomials of an array, one after the other
+--   LineElements        the lines of a basis of the code, by their places
+--   LineLeads           their leading monomials
+-- The loops:
+--   LeadsOf             the leading monomials, stored in turn
+--   Multiples           the search for a monomial of an array that divides another one
+--   HeldRows            values of the code that hold a row of n exponents
+--   ChangedExponents    values of the code with one exponent changed
+--   Carries             the next monomial that is not excluded, sought from the last variable on
+--   Collecting          all monomials that are not excluded, stored in rising order
+-- The checks:
+--   SoundLines          a basis that passed checks 2 to 11 holds lines of polynomials
+--   SmallestLine        the smallest line of which a check speaks
+--   DividedPlaces       check 12 by places
+--   ClearLines          check 12 is the condition of a reduced basis
+--   PowersOfVariables   check 13: a leading monomial that is a power, for each variable
+--   FailingPairs        check 15 is Buchberger's criterion
+--   WholeOutcome        what the outcome of checks 12 to 15 says of the lines
+pub mod Elements
+pub mod ArrayElements
+pub mod ArrayRows
+pub mod RowsInTurn
+pub mod LineElements
+pub mod LineLeads
+pub mod LeadsOf
+pub mod Multiples
+pub mod HeldRows
+pub mod ChangedExponents
+pub mod Carries
+pub mod Collecting
+pub mod SoundLines
+pub mod SmallestLine
+pub mod DividedPlaces
+pub mod ClearLines
+pub mod PowersOfVariables
+pub mod FailingPairs
+pub mod WholeOutcome

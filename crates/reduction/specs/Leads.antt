@@ -1,0 +1,55 @@
+-- Lists of leading monomials, their multiples, and what is next in lex among the others.
+--   rowsOf n count ms        the first monomials of an array, as rows of n exponents
+--   LeadsOf b count ms       the first monomials of an array are the leading monomials of a basis
+--   multiple n L m           whether a monomial of L divides m
+--   PowerIn n v L            a monomial of L is a power of variable v
+--   Powers n L               L has a power of each variable
+--   NextIs                   the next monomial in lex that is not excluded, or that there is none
+--   CountIs                  all monomials that are not excluded, in rising lex order, or that there are more than `most`
+use Prim.Native.Nat.{ℕ, _<_}
+use mathlib.Core.Path.{_≡_}
+use mathlib.Core.Bool.{Bool, true, false}
+use mathlib.Core.List.{List, [], _∷_, map}
+use mathlib.Core.Option.{none, some}
+use lib.ListN.{take}
+use Rattle.monomial.specs.Rows.{Row, divides, isPower}
+use Rattle.monomial.specs.Represented.{row}
+use Rattle.monomial.specs.declared.Monomial.{Monomial}
+use Rattle.groebner.specs.Polynomials.{_∈_}
+use Rattle.groebner.proofs.Next.{next}
+use Rattle.groebner.proofs.IrreducibleList.{irreducibles}
+use Rattle.basis.specs.declared.Basis.{Basis}
+use Rattle.reduction.specs.Generators.{linesOf}
+
+-- The first monomials of an array.
+unfoldable pub rowsOf : (n : ℕ) → ℕ → List Monomial → List (Row n)
+unfolding row
+rowsOf n count ms = map (row n) (take count ms)
+
+-- The first monomials of an array are the leading monomials of a basis, line by line.
+abbrev pub LeadsOf : Basis → ℕ → List Monomial → Type 0
+LeadsOf b count ms = (count ≡ b .lines) × ((h : 1 < b .p) → rowsOf (b .n) count ms ≡ map (λ g. g .0) (linesOf b h))
+
+-- Whether a monomial of L divides m.
+unfoldable pub multiple : (n : ℕ) → List (Row n) → Row n → Bool
+unfolding divides
+multiple n [] m = false
+multiple n (d ∷ L) m = elim (divides n d m) [ true ↦ true | false ↦ multiple n L m ]
+
+-- A monomial of L is a power of variable v, exponent 0 allowed.
+abbrev pub PowerIn : (n v : ℕ) → List (Row n) → Type 0
+PowerIn n v L = (m : Row n) × (m ∈ L) × (isPower n v m ≡ true)
+
+-- L has a power of each variable (document 01, "Zero-dimensional").
+abbrev pub Powers : (n : ℕ) → List (Row n) → Type 0
+Powers n L = (v : ℕ) → v < n → PowerIn n v L
+
+-- The answer of the search for the next monomial that is not excluded: what `next` of the theory says.
+abbrev pub NextIs : (n : ℕ) → List ℕ → (Row n → Bool) → Row n → Bool → Row n → Type 0
+NextIs n s excluded m true r = next n s excluded m ≡ some r
+NextIs n s excluded m false r = next n s excluded m ≡ none
+
+-- The answer of the count of those that are not excluded, in rising lex order: all of them, at most that many, or that there are more.
+abbrev pub CountIs : (n : ℕ) → List ℕ → (Row n → Bool) → ℕ → Bool → List (Row n) → Type 0
+CountIs n s excluded most false l = irreducibles n (next n s) excluded most ≡ some l
+CountIs n s excluded most true l = irreducibles n (next n s) excluded most ≡ none

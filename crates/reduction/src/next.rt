@@ -1,0 +1,51 @@
+// The next monomial in lex that no leading monomial divides.
+ghost use mathlib.Core.Path.{_≡_};
+ghost use Prim.Native.Nat.{ℕ, suc, _≤_, _<_};
+ghost use lib.ListN.{take};
+ghost use Rattle.monomial.specs.Sizes.{«most-variables», «most-entry»};
+ghost use Rattle.monomial.specs.Rows.{exponent};
+ghost use Rattle.monomial.specs.Represented.{row, monomial};
+ghost use Rattle.groebner.proofs.Next.{Ranking as Ranks};
+ghost use Rattle.tabtext.specs.Sizes.{«most-lines»};
+ghost use Rattle.reduction.specs.Leads.{rowsOf, multiple, NextIs};
+use crate::leads::Leads;
+use monomial::Exponent;
+use monomial::Monomial;
+use monomial::order::Ranking;
+
+// The next monomial, if there is one.
+pub struct NextMonomial {
+    pub found: bool,
+    pub monomial: Monomial,
+}
+
+// Raise the exponent of the last variable of the ranking; while the outcome is a multiple, set it to 0 and raise the one before.
+pub fn next(leads: Leads, m: Monomial, ranking: Ranking, n: usize) -> NextMonomial
+    requires { ⌜
+        (leads .count ≤ most-lines) × (n ≤ most-variables) × Ranks n (take n (ranking .variables)) × (m ≡ monomial n (row n m))
+        × ((i : ℕ) → i < n → exponent n (row n m) i < most-entry)
+        ⌝ }
+    ensures { λ r. ⌜
+        NextIs n (take n (ranking .variables)) (multiple n (rowsOf n (leads .count) (leads .monomials))) (row n m) (r .found) (row n (r .monomial))
+        × (r .monomial ≡ monomial n (row n (r .monomial))) × ((i : ℕ) → i < n → exponent n (row n (r .monomial)) i ≤ suc (exponent n (row n m) i))
+        ⌝ }
+{
+    let mut r = m;
+    let mut i = n;
+    while 0 < i {
+        i -= 1;
+        let v = ranking.variables[i];
+        r.e[v] = Exponent(r.e[v].0 + 1);
+        if !leads.multiple(r, n) {
+            return NextMonomial {
+                found: true,
+                monomial: r,
+            };
+        }
+        r.e[v] = Exponent(0);
+    }
+    NextMonomial {
+        found: false,
+        monomial: r,
+    }
+}
