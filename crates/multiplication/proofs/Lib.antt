@@ -1,0 +1,33 @@
+-- The theorems of the crate `multiplication`, besides those of its functions:
+--   Testing        the answer of a loop that tests each number below n
+--   Storing        an array that a loop fills, one store a turn
+--   UnitRows       coordinates that are 1 at one place and 0 elsewhere
+--   NaturalSums    sums of products of numbers, and their residues
+--   RowSums        the loop of `apply`
+--   CommutingRows  rows that commute, by their coefficients
+--   RowFilling     the rows of the products x_i·B_s, filled in rising order
+--   EqualMonomials monomials of the code that are equal as rows
+--   Sought         the loop of `place_of`
+--   LeadSought     the loop of `line_of`
+--   TailTerms      the tail of a line of the code, term by term
+--   Passing        the test of `passes`, and the loop of `variable_through`
+--   RowRules       the three rules for the row of x_i·B_s, by the answers of the code
+--   Merging        the merge of the next products
+--   AllRows        the loop of `fill`
+--   TailRows       the loop of `tail_row`
+pub mod Testing
+pub mod Storing
+pub mod UnitRows
+pub mod NaturalSums
+pub mod RowSums
+pub mod CommutingRows
+pub mod RowFilling
+pub mod EqualMonomials
+pub mod Sought
+pub mod LeadSought
+pub mod TailTerms
+pub mod TailRows
+pub mod Passing
+pub mod RowRules
+pub mod Merging
+pub mod AllRows

@@ -1,0 +1,167 @@
+-- The three rules for the row of x_i·B_s, by the answers of the code.
+--   listed-irreducible   what is listed is irreducible
+--   irreducible-listed   what is irreducible is listed
+--   reducible-outside    what is not listed is reducible
+--   place-inside         what is irreducible has a place in the list
+--   row-unit             x_i·B_s is listed
+--   row-tail             x_i·B_s is a leading monomial
+--   no-lead              it is none
+--   passes-some          some x_j divides B_s with x_i·B_s / x_j reducible, where x_i·B_s is neither listed nor a leading monomial
+--   divisor-listed       B_s / x_j is listed
+--   row-product          x_j divides B_s, and x_i·B_s / x_j is reducible
+use mathlib.Core.Path.{_≡_, sym, _∙_, ap, subst}
+use mathlib.Core.Bool.{Bool-discrete, true}
+use mathlib.Core.List.{List, []}
+use mathlib.Core.Logic.{by-cases, Dec·of-iff}
+use Prim.Native.Nat.{ℕ, _≤_, _<_}
+use native.Mathlib.Decide.{ℕ-discrete, decLt}
+use native.Mathlib.Omega.{arith}
+use lib.ListN.{length}
+use Rattle.residue.specs.Field.{ZMod, modulo}
+use Rattle.residue.proofs.ResidueField.{residue-ring}
+use Rattle.monomial.specs.Rows.{Row, one, product, quotient}
+use Rattle.monomial.specs.Ordering.{rows}
+use Rattle.monomial.specs.Represented.{row}
+use Rattle.monomial.proofs.Products.{product-comm, product-assoc, product-quotient, quotient-product, divides-iff}
+use Rattle.monomial.proofs.GrevlexOrder.{grevlex-order}
+use Rattle.groebner.specs.Polynomials.{_∈_, δ}
+use Rattle.groebner.specs.Lines.{Line, Reducible}
+use Rattle.groebner.proofs.Terms.{δ-same, δ-other}
+use Rattle.groebner.proofs.Places.{at-in, place-of, at-once}
+use Rattle.groebner.proofs.RisingLists.{rising-once}
+use Rattle.groebner.proofs.ReducibleTest.{reducible-iff}
+use Rattle.groebner.proofs.Variables.{variable, take-off}
+use Rattle.groebner.proofs.MultiplicationRows.{multiply}
+use Rattle.tabtext.specs.Sizes.{most-standard}
+use Rattle.tabtext.specs.Printed.{termsIn}
+use Rattle.basis.specs.declared.Basis.{Basis}
+use Rattle.reduction.specs.Generators.{residue, generator, linesOf}
+use Rattle.reduction.specs.Sound.{Sound, monomialAt, generatorAt}
+use Rattle.multiplication.specs.Rows.{coordinate, indicator, rowAt, coordinatesOf, cellOf, Multiplied}
+use Rattle.multiplication.specs.Listed.{listed, listedAt, Place, TailRow, LineOf, ListsIrreducibles, Passes}
+use Rattle.multiplication.specs.declared.coordinates.Coordinates.{Coordinates}
+use Rattle.multiplication.specs.declared.coordinates.Tables.{Tables}
+use Rattle.reduction.specs.declared.irreducible.Irreducibles.{Irreducibles}
+use Rattle.reduction.proofs.ArrayRows.{rows-length}
+use Rattle.reduction.proofs.LineElements.{lines-length, line-at}
+use Rattle.reduction.proofs.LineLeads.{line-lead}
+use Rattle.multiplication.proofs.UnitRows.{indicator-same, indicator-other}
+use Rattle.multiplication.proofs.NaturalSums.{residue-zero, residue-one}
+use Rattle.multiplication.specs.Rules.{NewRow}
+use Rattle.multiplication.specs.Rules.NewRow.{new-unit, new-tail, new-product}
+
+module _ (b : Basis) (l : Irreducibles) (irreducibles : ListsIrreducibles b l) (full : l .count ≤ length (l .monomials)) (h : 1 < b .p) where
+  abbrev n : ℕ
+  n = b .n
+
+  abbrev G : List (Line (ZMod (b .p)) (Row n))
+  G = linesOf b h
+
+  abbrev B : List (Row n)
+  B = listed n l
+
+  abbrev at : ℕ → Row n
+  at k = listedAt n l k
+
+  pub listed-length : length B ≡ l .count
+  listed-length = rows-length n (l .count) (l .monomials) full
+
+  pub listed-irreducible : (k : ℕ) → k < l .count → ¬ Reducible (rows n) G (at k)
+  listed-irreducible k m = irreducibles .lists h .only (at k) (at-in B (one n) k (omega (arith, listed-length)))
+
+  pub irreducible-listed : (m : Row n) → ¬ Reducible (rows n) G m → (k : ℕ) × (k < l .count) × (at k ≡ m)
+  irreducible-listed m r = let p = place-of (one n) (irreducibles .lists h .all m r) in (p .0, omega (arith, p .1, listed-length), p .2)
+
+  pub listed-once : (j k : ℕ) → j < l .count → k < l .count → at j ≡ at k → j ≡ k
+  listed-once j k u v e = at-once B (one n) (rising-once (grevlex-order n) B (irreducibles .lists h .rising)) j k (omega (arith, listed-length)) (omega (arith, listed-length)) e
+
+  reducible-dec : (m : Row n) → Dec (Reducible (rows n) G m)
+  reducible-dec m = Dec·of-iff (reducible-iff n G m) (Bool-discrete _ true)
+
+  pub reducible-outside : (m : Row n) → ((k : ℕ) → k < l .count → ¬ (at k ≡ m)) → Reducible (rows n) G m
+  reducible-outside m out = by-cases (reducible-dec m) (λ r. r) (λ r. let (k, u, e) = irreducible-listed m r in absurd (out k u e))
+
+  pub place-outside : {m : Row n} (r : ℕ) → Place n B (l .count) m r → l .count ≤ r → Reducible (rows n) G m
+  place-outside {m} r q u = reducible-outside m (λ k v. q .first k (omega arith))
+
+  pub place-inside : {m : Row n} (r : ℕ) → Place n B (l .count) m r → ¬ Reducible (rows n) G m → r < l .count
+  place-inside {m} r q u = by-cases (decLt r (l .count)) (λ v. v) (λ v. absurd (u (place-outside r q (omega arith))))
+
+  module _ (cell : ℕ → ℕ → ℕ → ZMod (b .p)) (i s : ℕ) where
+    abbrev x : Row n
+    x = product n (variable n i) (at s)
+
+    -- The row w of x_i·B_s by one of the rules.
+    abbrev pub RuleFor : Coordinates → Type 0
+    RuleFor w = NewRow (modulo (b .p) h) n G B (one n) cell i s (coordinatesOf (b .p) h w)
+
+    pub row-unit : {m : Row n} → m ≡ x → (k : ℕ) → Place n B (l .count) m k → k < l .count → (w : Coordinates) → ((j : ℕ) → coordinate w j ≡ indicator j k) → RuleFor w
+    unfolding coordinatesOf
+    row-unit e k q u w c = new-unit (subst (λ m. ¬ Reducible (rows n) G m) here (listed-irreducible k u))
+        (λ j v. ap (residue (b .p) h) (c j) ∙ by-cases (ℕ-discrete j k)
+        (λ p. rw p (ap (residue (b .p) h) (indicator-same k) ∙ residue-one (b .p) h ∙ sym (ap (δ (modulo (b .p) h) (rows n) (at k)) (sym here) ∙ δ-same (residue-ring (b .p) h) (rows n) (at k))))
+        (λ p. ap (residue (b .p) h) (indicator-other j k p) ∙ residue-zero (b .p) h
+        ∙ sym (δ-other (residue-ring (b .p) h) (rows n) (at j) x (λ f. p (listed-once j k (omega (arith, listed-length)) u (f ∙ sym here))))))
+      where
+        here : at k ≡ x
+        here = q .found u ∙ e
+
+    module _ (sound : Sound b) (lines : b .lines ≤ length (b .generators)) where
+      line : ℕ → Line (ZMod (b .p)) (Row n)
+      line g = generator (b .p) h n (termsIn n (generatorAt b g))
+
+      line-in : (g : ℕ) → g < b .lines → line g ∈ G
+      unfolding line
+      line-in g u = subst (λ f. f ∈ G) (line-at b h g u) (at-in G (one n, []) g (omega (arith, lines-length b h lines)))
+
+      line-first : (g : ℕ) → g < b .lines → line g .0 ≡ row n (monomialAt (generatorAt b g) 0)
+      unfolding line
+      line-first g u = line-lead (b .p) h n (generatorAt b g) (sound .lines g u)
+
+      pub row-tail : {m : Row n} → m ≡ x → (g : ℕ) → LineOf b m g → g < b .lines → {w : Coordinates} → TailRow (b .p) n (generatorAt b g) l w → RuleFor w
+      unfolding line
+      row-tail e g q u t = new-tail (line g) (line-in g u) (sym e ∙ sym (q .found u) ∙ sym (line-first g u)) (λ k v. t .coefficients h k (omega (arith, listed-length)))
+
+      pub no-lead : {m : Row n} → m ≡ x → (g : ℕ) → LineOf b m g → b .lines ≤ g → (f : Line (ZMod (b .p)) (Row n)) → f ∈ G → ¬ (x ≡ f .0)
+      unfolding line
+      no-lead e g q u f p r =
+          let (k, v, d) = place-of (one n, []) p in
+          let v′ : k < b .lines = omega (arith, v, lines-length b h lines) in
+          q .first k (omega arith) (sym (line-first k v′) ∙ ap (λ f. f .0) (sym (line-at b h k v′) ∙ d) ∙ sym r ∙ sym e)
+
+    pub passes-some : i < n → s < l .count → Reducible (rows n) G x → ((f : Line (ZMod (b .p)) (Row n)) → f ∈ G → ¬ (x ≡ f .0)) → (j : ℕ) × (j < n) × Passes n l (at s) i j
+    unfolding rows
+    passes-some hi hs r other =
+        let (j, hj, c, e, red) = take-off n G i hi (at s) (listed-irreducible s hs) r other in
+        let f : at s ≡ product n c (variable n j) = e ∙ product-comm n (variable n j) c in
+        let q : quotient n (at s) (variable n j) ≡ c = ap (λ m. quotient n m (variable n j)) f ∙ quotient-product n c (variable n j) in (
+          j,
+          hj,
+          record {
+            divisor = divides-iff n (variable n j) (at s) .1 (c, f);
+            outside = λ k u d. listed-irreducible k u (subst (Reducible (rows n) G) (sym (d ∙ ap (product n (variable n i)) q)) red);
+          },
+        )
+
+  module _ (i s : ℕ) (hs : s < l .count) (j : ℕ) (passes : Passes n l (at s) i j) (t : ℕ) (place : Place n B (l .count) (quotient n (at s) (variable n j)) t) where
+    c : Row n
+    c = quotient n (at s) (variable n j)
+
+    taken : at s ≡ product n (variable n j) c
+    unfolding c
+    taken = sym (product-quotient n (at s) (variable n j) (passes .divisor)) ∙ product-comm n _ _
+
+    pub divisor-listed : t < l .count
+    unfolding c rows
+    divisor-listed = place-inside t place (λ (g, p, (u, e)). listed-irreducible s hs (g, p, (product n (variable n j) u, taken ∙ ap (product n (variable n j)) e ∙ sym (product-assoc n (variable n j) u (g .0)))))
+
+    pub row-product : j < n → l .count ≤ most-standard → (tables : Tables) (w : Coordinates) → Multiplied (b .p) tables j (rowAt tables i t) (l .count) w → RuleFor (cellOf (b .p) h tables) i s w
+    unfolding c cellOf
+    row-product hj few tables w r = new-product j hj t (omega (arith, listed-length, divisor-listed))
+        (taken ∙ ap (product n (variable n j)) (sym here))
+        (subst (λ m. Reducible (rows n) G (product n (variable n i) m)) (sym here) (reducible-outside _ (passes .outside)))
+        (λ k v. subst (λ d. coordinatesOf (b .p) h w k ≡ multiply (modulo (b .p) h) d (cellOf (b .p) h tables) j (cellOf (b .p) h tables i t) k) (sym listed-length)
+        (r .coordinates h k (omega (arith, listed-length))))
+      where
+        here : at t ≡ quotient n (at s) (variable n j)
+        here = place .found divisor-listed

@@ -1,0 +1,36 @@
+-- The next products of the variables, of which the smallest has its row filled next.
+--   cursor c i            the number of the rows of x_i that are filled
+--   Listing n l           a list of at most 32 monomials in at most 4 variables, whose exponents have room for one more
+--   nextProduct n l c i   the next product of x_i
+--   Best n l c best j     of the variables before x_j, `best` has the smallest next product; it is n where none of them has one
+use Prim.Native.Nat.{ℕ, _≤_, _<_}
+use lib.ListN.{getD}
+use Rattle.monomial.specs.Sizes.{most-variables, most-entry}
+use Rattle.monomial.specs.Rows.{Row, exponent, product}
+use Rattle.monomial.specs.Ordering.{Grevlex}
+use Rattle.groebner.proofs.Variables.{variable}
+use Rattle.tabtext.specs.Sizes.{most-standard}
+use Rattle.multiplication.specs.Listed.{listedAt}
+use Rattle.reduction.specs.declared.irreducible.Irreducibles.{Irreducibles}
+use Rattle.multiplication.specs.declared.fill.Cursors.{Cursors}
+
+-- The number of the rows of x_i that are filled.
+abbrev pub cursor : Cursors → ℕ → ℕ
+cursor c i = getD (c .at) i 0
+
+-- A list of at most 32 monomials in at most 4 variables, whose exponents have room for one more.
+pub record Listing (n : ℕ) (l : Irreducibles) : Type 0 where
+  pub variables : n ≤ most-variables
+  pub few : l .count ≤ most-standard
+  pub exponents : (k : ℕ) → k < l .count → (i : ℕ) → i < n → exponent n (listedAt n l k) i < most-entry
+
+-- The next product of x_i.
+abbrev pub nextProduct : (n : ℕ) → Irreducibles → Cursors → ℕ → Row n
+nextProduct n l c i = product n (variable n i) (listedAt n l (cursor c i))
+
+-- Of the variables before x_j, `best` has the smallest next product; it is n where none of them has one.
+pub record Best (n : ℕ) (l : Irreducibles) (c : Cursors) (best j : ℕ) : Type 0 where
+  pub within : best ≤ n
+  pub none : n ≤ best → (k : ℕ) → k < j → l .count ≤ cursor c k
+  pub some : best < n → cursor c best < l .count
+  pub least : best < n → (k : ℕ) → k < j → cursor c k < l .count → ¬ Grevlex n (nextProduct n l c k) (nextProduct n l c best)

@@ -1,0 +1,39 @@
+-- The three rules for the row of x_i·B_s, by which the rows of the theory (`Filled` of MultiplicationRows) are filled one after another.
+--   multiple-at    x_i·B_s
+--   NewRow         w is the row of x_i·B_s by one of the rules: x_i·B_s is irreducible, or a leading monomial, or comes through B_t with B_s = x_j·B_t
+--   RowFor         the coordinates r are such a row, over the rows of the tables
+use Prim.Native.Nat.{ℕ, _<_}
+use mathlib.Core.Path.{_≡_}
+use mathlib.Core.List.{List}
+use lib.ListN.{length, getD}
+use Rattle.residue.specs.Field.{Arithmetic, modulo}
+use Rattle.monomial.specs.Rows.{Row, one, product}
+use Rattle.monomial.specs.Ordering.{rows}
+use Rattle.groebner.specs.Polynomials.{_∈_, δ, coef}
+use Rattle.groebner.specs.Lines.{Line, Reducible}
+use Rattle.groebner.proofs.Variables.{variable}
+use Rattle.groebner.proofs.MultiplicationRows.{multiply}
+use Rattle.basis.specs.declared.Basis.{Basis}
+use Rattle.reduction.specs.Generators.{linesOf}
+use Rattle.multiplication.specs.Rows.{Below, coordinatesOf, cellOf}
+use Rattle.multiplication.specs.Listed.{listed}
+use Rattle.multiplication.specs.declared.coordinates.Coordinates.{Coordinates}
+use Rattle.multiplication.specs.declared.coordinates.Tables.{Tables}
+use Rattle.reduction.specs.declared.irreducible.Irreducibles.{Irreducibles}
+
+module _ {F : Type 0} (R : Arithmetic F) (n : ℕ) (G : List (Line F (Row n))) (B : List (Row n)) (d : Row n) where
+  -- x_i·B_s
+  abbrev pub multiple-at : ℕ → ℕ → Row n
+  multiple-at i s = product n (variable n i) (getD B s d)
+
+  -- w is the row of x_i·B_s by one of the rules, over the rows of `cell`.
+  pub data NewRow (cell : ℕ → ℕ → ℕ → F) (i s : ℕ) (w : ℕ → F) : Type 0 where
+    new-unit : ¬ Reducible (rows n) G (multiple-at i s) → ((k : ℕ) → k < length B → w k ≡ δ R (rows n) (getD B k d) (multiple-at i s)) → NewRow cell i s w
+    new-tail : (g : Line F (Row n)) → g ∈ G → multiple-at i s ≡ g .0 → ((k : ℕ) → k < length B → w k ≡ R .neg (coef R (rows n) (g .1) (getD B k d))) → NewRow cell i s w
+    new-product : (j : ℕ) → j < n → (t : ℕ) → t < length B → getD B s d ≡ multiple-at j t → Reducible (rows n) G (multiple-at i t)
+        → ((k : ℕ) → k < length B → w k ≡ multiply R (length B) cell j (cell i t) k) → NewRow cell i s w
+
+-- r is the row of x_i·B_s by one of the rules, over the rows of the tables t.
+pub record RowFor (b : Basis) (l : Irreducibles) (t : Tables) (i s : ℕ) (r : Coordinates) : Type 0 where
+  pub below : Below (b .p) r
+  pub rule : (h : 1 < b .p) → NewRow (modulo (b .p) h) (b .n) (linesOf b h) (listed (b .n) l) (one (b .n)) (cellOf (b .p) h t) i s (coordinatesOf (b .p) h r)

@@ -1,0 +1,10 @@
+// Multiplication rows: the products of the irreducible monomials with the variables, as coordinates (document 01, refusal 15).
+//
+//   coordinates   coordinates in the irreducible monomials, and what the rows of the products x_i·B_s make of them
+//   place         places of monomials in the list of the irreducible ones
+//   fill          these rows, filled in rising order of the products
+//   commute       whether these rows commute
+pub mod commute;
+pub mod coordinates;
+pub mod fill;
+pub mod place;
