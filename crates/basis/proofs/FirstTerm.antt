@@ -66,7 +66,7 @@ module _ (p n : ℕ) (text : Bytes) (start i coefficient : ℕ) (exponents : Lis
     pub held : HeldLine n one
     held =
         let s = rw e at says in
-        held-longer n line one longer (rw none tt) (held-monomial n _ (s .1 .1))
+        held-longer n line one longer (omega (arith, none), rw none tt) (held-monomial n _ (s .1 .1))
 
     holds : asRow n (t .1) ≡ row n (c .monomial)
     holds = let s = rw e at says in sym (rw (s .1 .1) (row-monomial n _))

@@ -79,5 +79,5 @@ module _ (p n : ℕ) (text : Bytes) (begin : ℕ) where
     same = λ k. record { p = inv .modulus k; n = inv .variables k; generators = map (termsIn (inv .variables k)) (take (b .lines) (b .generators)) }
 
     pub stop : (v : Verdict) → Stops p n (b .lines) (drop at text) v → LinesSays p n (drop begin text) v b
-    stop Passed h = (inv .rest _ (rw same (h (lines n b) long)), rw (inv .variables) (inv .held))
+    stop Passed h = (inv .rest _ (rw same (h (lines n b) long)), (inv .most, rw (inv .variables) (inv .held)))
     stop (Refused r line) h = inv .rest _ (h (lines n b) long)

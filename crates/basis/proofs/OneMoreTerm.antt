@@ -13,6 +13,7 @@ use lib.ListN.{length, set, take}
 use lib.Seq.{length-take-le, take-suc-set}
 use Rattle.residue.specs.declared.Residue.{Residue}
 use Rattle.monomial.specs.declared.Monomial.{Monomial}
+use Rattle.tabtext.specs.Sizes.{most-terms}
 use Rattle.tabtext.specs.Text.{Term}
 use Rattle.tabtext.specs.Printed.{rowOf, termsOf, termsIn}
 use Rattle.tabtext.specs.declared.print.Generator.{Generator}
@@ -37,16 +38,17 @@ terms-append n [] (y ∷ ms) c m h = absurd (omega arith)
 terms-append n (x ∷ cs) [] c m h = absurd (omega arith)
 terms-append n (x ∷ cs) (y ∷ ms) c m h = ap (λ l. (x .0, rowOf n y) ∷ l) (terms-append n cs ms c m (omega arith))
 
-pub longer : (g : Generator) (c : Residue) (m : Monomial) → g .terms < length (g .coefficients) → g .terms < length (g .monomials) →
+pub longer : (g : Generator) (c : Residue) (m : Monomial) → g .terms < most-terms → g .terms < length (g .coefficients) → g .terms < length (g .monomials) →
     Longer g c m (record { terms = g .terms + 1; coefficients = set (g .coefficients) (g .terms) c; monomials = set (g .monomials) (g .terms) m })
 unfolding termsIn
-longer g c m h k =
+longer g c m room h k =
     let cs = g .coefficients in
     let ms = g .monomials in
     let e : length (take (g .terms) cs) ≡ length (take (g .terms) ms) =
     length-take-le (g .terms) cs (omega arith) ∙ sym (length-take-le (g .terms) ms (omega arith))
     in
     record {
+      room = room;
       count = add-one (g .terms);
       terms =
           λ n. rw (add-one (g .terms), terms-take, take-suc-set, take-suc-set, terms-take) (terms-append n (take (g .terms) cs) (take (g .terms) ms) c m e);
@@ -59,4 +61,4 @@ kept n t c h len =
     λ k. (h .0 k, e k)
 
 pub held-longer : (n : ℕ) (g r : Generator) {c : Residue} {m : Monomial} → Longer g c m r → HeldLine n g → Held n m → HeldLine n r
-held-longer n g r l h p = rw (l .monomials) (each-append (Held n) (take (g .terms) (g .monomials)) h p)
+held-longer n g r l h p = (omega (arith, l .room, l .count), rw (l .monomials) (each-append (Held n) (take (g .terms) (g .monomials)) (h .1) p))

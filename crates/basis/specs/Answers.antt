@@ -1,7 +1,7 @@
 -- The basis that a value of the code holds, and what the answers of the code say.
 --   basisOf b          the basis that b holds: of its lines the first, of their terms the first; what stands after these is free
 --   Held n m           the monomial m is 0 from place n on
---   HeldLine, HeldBasis    so are the monomials of a line, of a basis
+--   HeldLine, HeldBasis    so are the monomials of a line, of a basis, which are within their arrays
 --   TermSays           what the answer to a term says
 --   Longer g c m r     r is the line g with one term more
 --   Ahead n s terms    the terms stand at the front of s
@@ -22,6 +22,7 @@ use lib.ListN.{length, take, drop}
 use Rattle.residue.specs.declared.Residue.{Residue}
 use Rattle.monomial.specs.Represented.{row, monomial}
 use Rattle.monomial.specs.declared.Monomial.{Monomial}
+use Rattle.tabtext.specs.Sizes.{most-terms, most-lines}
 use Rattle.tabtext.specs.Text.{Bytes, Term, Each, generator, end}
 use Rattle.tabtext.specs.Readers.{got, startsWith, readTerm}
 use Rattle.tabtext.specs.Printed.{rowOf, termsIn}
@@ -47,11 +48,13 @@ basisOf b = record { p = b .p; n = b .n; generators = map (termsIn (b .n)) (take
 abbrev pub Held : ℕ → Monomial → Type 0
 Held n m = m ≡ monomial n (row n m)
 
+-- A line's terms are in its arrays, and their exponents from place n on are 0.
 abbrev pub HeldLine : ℕ → Generator → Type 0
-HeldLine n g = Each (Held n) (take (g .terms) (g .monomials))
+HeldLine n g = (g .terms ≤ most-terms) × Each (Held n) (take (g .terms) (g .monomials))
 
+-- A basis' lines are in its array, and each is held.
 abbrev pub HeldBasis : Basis → Type 0
-HeldBasis b = Each (HeldLine (b .n)) (take (b .lines) (b .generators))
+HeldBasis b = (b .lines ≤ most-lines) × Each (HeldLine (b .n)) (take (b .lines) (b .generators))
 
 -- The answer to a term: the outcome of its checks, and its coefficient and its monomial if it passes.
 abbrev pub TermPasses : ℕ → Term → Check → TermCheck → Type 0
@@ -63,6 +66,7 @@ TermSays n t checks r = checks (outcome (r .check)) × TermPasses n t (r .check)
 
 -- r is the line g with one term more, of coefficient c and monomial m.
 pub record Longer (g : Generator) (c : Residue) (m : Monomial) (r : Generator) : Type 0 where
+  pub room : g .terms < most-terms
   pub count : r .terms ≡ suc (g .terms)
   pub terms : (n : ℕ) → termsIn n r ≡ termsIn n g ++ ((c .0, rowOf n m) ∷ [])
   pub monomials : take (r .terms) (r .monomials) ≡ take (g .terms) (g .monomials) ++ (m ∷ [])

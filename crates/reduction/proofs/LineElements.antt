@@ -1,8 +1,10 @@
 -- The lines of a basis of the code, by their places.
---   Filled b            the arrays of b have its lines and the monomials of their terms
---   lines-length        there are as many lines as b says
+--   Filled b            the arrays of b have its lines and the coefficients and monomials of their terms
+--   generators-length   there are as many poly lines as b says
+--   generator-terms     the poly line at place k has the terms of generator k
+--   lines-length        there are as many lines
 --   line-at             the line at place k is made of the terms of generator k
---   terms-length        a sound generator has as many terms as it says
+--   terms-length        a generator whose arrays have its terms has as many as it says
 --   line-monomials      the monomials of the line that a sound generator makes are the first of its array
 --   line-monomials-at   they are the rows of its monomials at the places below `terms`
 use mathlib.Core.Path.{_≡_, refl, sym, _∙_, ap, subst}
@@ -33,21 +35,30 @@ use Rattle.reduction.specs.Leads.{rowsOf}
 use Rattle.reduction.proofs.Elements.{element-in, place-of}
 use Rattle.reduction.proofs.ArrayRows.{row-at, rows-length, rows-at, row-of-terms}
 
--- The arrays of a basis have its lines and the monomials of their terms.
+-- The arrays of a basis have its lines and the coefficients and monomials of their terms.
 pub record Filled (b : Basis) : Type 0 where
   pub lines : b .lines ≤ length (b .generators)
+  pub coefficients : (k : ℕ) → k < b .lines → generatorAt b k .terms ≤ length (generatorAt b k .coefficients)
   pub terms : (k : ℕ) → k < b .lines → generatorAt b k .terms ≤ length (generatorAt b k .monomials)
 
-module _ (b : Basis) (h : 1 < b .p) where
-  pub lines-length : b .lines ≤ length (b .generators) → length (linesOf b h) ≡ b .lines
-  unfolding linesOf generators basisOf
-  lines-length l = length-map (map (termsIn (b .n)) (take (b .lines) (b .generators))) (generator (b .p) h (b .n)) ∙ length-map (take (b .lines) (b .generators)) (termsIn (b .n)) ∙ length-take-le (b .lines) (b .generators) l
+module _ (b : Basis) where
+  pub generators-length : b .lines ≤ length (b .generators) → length (basisOf b .generators) ≡ b .lines
+  unfolding basisOf
+  generators-length l = length-map (take (b .lines) (b .generators)) (termsIn (b .n)) ∙ length-take-le (b .lines) (b .generators) l
 
-  pub line-at : (k : ℕ) → k < b .lines → getD (linesOf b h) k (one (b .n), []) ≡ generator (b .p) h (b .n) (termsIn (b .n) (generatorAt b k))
-  unfolding linesOf generators basisOf generator termsIn generatorAt
-  line-at k l = List·getD-map (generator (b .p) h (b .n)) (map (termsIn (b .n)) (take (b .lines) (b .generators))) k []
-      ∙ ap (generator (b .p) h (b .n)) (List·getD-map (termsIn (b .n)) (take (b .lines) (b .generators)) k (record { terms = 0; coefficients = []; monomials = [] })
-      ∙ ap (termsIn (b .n)) (getD-take (b .lines) (b .generators) k _ l))
+  pub generator-terms : (k : ℕ) → k < b .lines → getD (basisOf b .generators) k [] ≡ termsIn (b .n) (generatorAt b k)
+  unfolding basisOf termsIn generatorAt
+  generator-terms k l = List·getD-map (termsIn (b .n)) (take (b .lines) (b .generators)) k (record { terms = 0; coefficients = []; monomials = [] })
+      ∙ ap (termsIn (b .n)) (getD-take (b .lines) (b .generators) k _ l)
+
+  module _ (h : 1 < b .p) where
+    pub lines-length : b .lines ≤ length (b .generators) → length (linesOf b h) ≡ b .lines
+    unfolding linesOf generators
+    lines-length l = length-map (basisOf b .generators) (generator (b .p) h (b .n)) ∙ generators-length l
+
+    pub line-at : (k : ℕ) → k < b .lines → getD (linesOf b h) k (one (b .n), []) ≡ generator (b .p) h (b .n) (termsIn (b .n) (generatorAt b k))
+    unfolding linesOf generators generator
+    line-at k l = List·getD-map (generator (b .p) h (b .n)) (basisOf b .generators) k [] ∙ ap (generator (b .p) h (b .n)) (generator-terms k l)
 
 -- The rows of the terms of a line, for as many terms as there are coefficients.
 rows-of-terms : (n k : ℕ) (cs : List Residue) (ms : List Monomial) → k ≤ length cs → map (λ (u : Term). asRow n (u .1)) (take k (termsOf n cs ms)) ≡ map (row n) (take k ms)
@@ -56,6 +67,11 @@ rows-of-terms n zero cs ms h = refl
 rows-of-terms n (suc k) [] ms h = absurd (omega arith)
 rows-of-terms n (suc k) (c ∷ cs) [] h = refl
 rows-of-terms n (suc k) (c ∷ cs) (m ∷ ms) h = λ i. row-of-terms n m i ∷ rows-of-terms n k cs ms (omega arith) i
+
+pub terms-length : (n : ℕ) (g : Generator) → g .terms ≤ length (g .coefficients) → g .terms ≤ length (g .monomials) → length (termsIn n g) ≡ g .terms
+unfolding termsIn rowsOf
+terms-length n g c m = sym (length-map (termsIn n g) (λ (u : Term). asRow n (u .1)))
+    ∙ ap length (rows-of-terms n (g .terms) (g .coefficients) (g .monomials) c) ∙ rows-length n (g .terms) (g .monomials) m
 
 -- A generator whose coefficients are not 0 has them in its array.
 enough-coefficients : (p n : ℕ) (g : Generator) → SoundLine p n g → g .terms ≤ length (g .coefficients)
@@ -72,14 +88,9 @@ module _ (p : ℕ) (h : 1 < p) (n : ℕ) where
   monomials-of-terms (t ∷ ts) l = ap (λ r. asRow n (t .1) ∷ r) (map-map _ _ ts)
 
   module _ (g : Generator) (s : SoundLine p n g) (filled : g .terms ≤ length (g .monomials)) where
-    pub terms-length : length (termsIn n g) ≡ g .terms
-    unfolding rowsOf termsIn
-    terms-length = sym (length-map (termsIn n g) (λ (u : Term). asRow n (u .1)))
-        ∙ ap length (rows-of-terms n (g .terms) (g .coefficients) (g .monomials) (enough-coefficients p n g s)) ∙ rows-length n (g .terms) (g .monomials) filled
-
     pub line-monomials : map (λ t. t .1) (polynomial (modulo p h) (generator p h n (termsIn n g))) ≡ rowsOf n (g .terms) (g .monomials)
     unfolding rowsOf termsIn
-    line-monomials = monomials-of-terms (termsIn n g) (omega (arith, s .some, terms-length)) ∙ rows-of-terms n (g .terms) (g .coefficients) (g .monomials) (enough-coefficients p n g s)
+    line-monomials = monomials-of-terms (termsIn n g) (omega (arith, s .some, terms-length n g (enough-coefficients p n g s) filled)) ∙ rows-of-terms n (g .terms) (g .coefficients) (g .monomials) (enough-coefficients p n g s)
 
     pub line-monomials-at : (m : Row n) → m ∈ map (λ t. t .1) (polynomial (modulo p h) (generator p h n (termsIn n g))) ↔ ((k : ℕ) × (k < g .terms) × (m ≡ row n (monomialAt g k)))
     line-monomials-at m = (

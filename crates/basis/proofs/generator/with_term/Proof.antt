@@ -28,7 +28,7 @@ returns : tie.Need-returns
 returns c =
     let h : length (c .args .g .coefficients) ≡ most-terms = search (length-mapped, needs) in
     let k : length (c .args .g .monomials) ≡ most-terms = search (length-mapped, needs) in
-    longer (c .args .g) _ _ (omega arith) (omega arith)
+    longer (c .args .g) _ _ (omega arith) (omega arith) (omega arith)
 
 pub with-term-spec : {M : Type 1} → statement M
 with-term-spec =

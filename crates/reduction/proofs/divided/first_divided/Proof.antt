@@ -34,6 +34,10 @@ loop-holds c =
       omega arith,
       record {
         lines = omega arith;
+        coefficients = λ k h.
+            let a = element-known _ _ (record { terms = 0; coefficients = []; monomials = [] }) (b .generators) _ (c .good .0 .1 .1 .1 .1 .1 .0 .1 .1) k (omega arith) in
+            let e : length (generatorAt b k .coefficients) ≡ most-terms = search (length-mapped, needs) in
+            omega (arith, c .pre .0 .lines k h .few);
         terms = λ k h.
             let a = element-known _ _ (record { terms = 0; coefficients = []; monomials = [] }) (b .generators) _ (c .good .0 .1 .1 .1 .1 .1 .0 .1 .1) k (omega arith) in
             let e : length (generatorAt b k .monomials) ≡ most-terms = search (length-mapped, needs) in

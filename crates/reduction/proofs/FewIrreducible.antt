@@ -1,0 +1,50 @@
+-- Where check 14 does not speak, at most 32 monomials are irreducible.
+--   few-irreducible        a list of irreducible monomials, each once, has at most 32
+--   irreducible-listed     zero-dimensional lines have a list of all of them, of at most 32
+use mathlib.Core.List.{List, [], _∷_, List·Memᴰ·head, List·Memᴰ·tail, List·Memᴰ·not-nil, List·Memᴰ·cases-cons}
+use mathlib.Core.Path.{refl}
+use mathlib.Core.Logic.{⊎-elim, by-cases}
+use Prim.Native.Nat.{ℕ, zero, suc, _≤_}
+use native.Mathlib.Decide.{decLe}
+use native.Mathlib.Omega.{arith}
+use lib.ListN.{length, take}
+use lib.Seq.{length-take-le}
+use Rattle.monomial.specs.Rows.{Row}
+use Rattle.monomial.specs.Ordering.{rows}
+use Rattle.groebner.specs.Polynomials.{_∈_}
+use Rattle.groebner.specs.Lines.{Once, Line, Reducible}
+use Rattle.groebner.specs.Standard.{ZeroDimensional, Lists}
+use Rattle.groebner.proofs.ZeroDimension.{irreducible-list}
+use Rattle.tabtext.specs.Sizes.{most-standard}
+use Rattle.tabtext.specs.Text.{Each}
+use Rattle.reduction.specs.Whole.{Large}
+
+module _ {A : Type 0} where
+  of-take : (k : ℕ) (l : List A) {x : A} → x ∈ take k l → x ∈ l
+  of-take zero l q = absurd (List·Memᴰ·not-nil q)
+  of-take (suc k) [] q = absurd (List·Memᴰ·not-nil q)
+  of-take (suc k) (y ∷ l) q = ⊎-elim (λ e. List·Memᴰ·head e) (λ r. List·Memᴰ·tail (of-take k l r)) (List·Memᴰ·cases-cons q)
+
+  once-take : (k : ℕ) (l : List A) → Once l → Once (take k l)
+  once-take zero l w = tt
+  once-take (suc k) [] w = tt
+  once-take (suc k) (x ∷ l) w = (λ q. w .0 (of-take k l q), once-take k l (w .1))
+
+  each-of : (P : A → Type 0) (l : List A) → ((x : A) → x ∈ l → P x) → Each P l
+  each-of P [] h = tt
+  each-of P (x ∷ l) h = (h x (List·Memᴰ·head refl), each-of P l (λ y q. h y (List·Memᴰ·tail q)))
+
+module _ {F : Type 0} (n : ℕ) (G : List (Line F (Row n))) where
+  abbrev Irreducible : Row n → Type 0
+  Irreducible m = ¬ Reducible (rows n) G m
+
+  pub few-irreducible : ¬ Large n G → (l : List (Row n)) → Once l → ((m : Row n) → m ∈ l → Irreducible m) → length l ≤ most-standard
+  few-irreducible small l once irreducible = by-cases (decLe (length l) most-standard) (λ h. h) (λ h. absurd (small (
+    take (suc most-standard) l,
+    length-take-le (suc most-standard) l (omega arith),
+    once-take (suc most-standard) l once,
+    each-of Irreducible (take (suc most-standard) l) (λ m q. irreducible m (of-take (suc most-standard) l q)),
+  )))
+
+  pub irreducible-listed : ZeroDimensional n G → ¬ Large n G → (B : List (Row n)) × Lists Irreducible B × (length B ≤ most-standard)
+  irreducible-listed z small = let (B, lists) = irreducible-list n G z in (B, lists, few-irreducible small B (lists .once) (lists .only))
