@@ -4,6 +4,7 @@
 --   standard-count                there are as many standard monomials as irreducible ones
 --   seen-outcome                  when all monomials are seen, what is found is an Outcome
 --   enumeration-outcome           with room for D standard monomials the enumeration ends after at most 1 + n·D visits, and its outcome is that
+--   outcome-exists                there is an Outcome
 use mathlib.Core.Path.{_≡_, refl, _∙_, ap}
 use mathlib.Core.Bool.{Bool}
 use mathlib.Core.List.{List, _++_, map}
@@ -106,3 +107,7 @@ module _ {F : Type 0} {R : Arithmetic F} (n : ℕ) {lt lt′ : Row n → Row n �
   pub enumeration-outcome : {D : ℕ} (E : Elimination (sequences ring) L D)
       → (q : Progress n E) × (run n E next (1 + n * D) (begin n E) (one n) ≡ some q) × Outcome R n lt lt′ G (length B₀) (written field (rows n) (q .standard) (q .lines)) (q .standard)
   enumeration-outcome E = let (q, e, c) = enumeration n E ord′ shifts next successors in (q, e, seen-outcome (q .lines) (q .standard) (c .seen))
+
+  -- So there is one.
+  pub outcome-exists : (H : List (Line F (Row n))) × (B : List (Row n)) × Outcome R n lt lt′ G (length B₀) H B
+  outcome-exists = let (q, _, w) = enumeration-outcome rows-elimination in (written field (rows n) (q .standard) (q .lines), q .standard, w)

@@ -1,6 +1,7 @@
 -- A basis that passed checks 2 to 11 holds lines of polynomials, greatest term first.
 --   falling-of-steps    terms each smaller than the one before it fall
 --   proper-of-falling   falling terms without coefficient 0 are a polynomial
+--   tail-nonzero        coefficients from 1 to p - 1 make none that is zero
 --   sound-lines         the lines of a sound basis are lines with grevlex
 use mathlib.Core.Path.{_≡_, refl, sym, _∙_, ap, subst, subst₂}
 use mathlib.Core.List.{List, [], _∷_, map, List·Memᴰ·head, List·Memᴰ·tail, List·Memᴰ·not-nil, List·Memᴰ·cases-cons}
@@ -62,7 +63,7 @@ module _ (p : ℕ) (h : 1 < p) (n : ℕ) where
   unfolding residue modulo
   residue-nonzero x a b e = omega (arith, ap (λ (r : ZMod p). r .0) e, mod-eq-of-lt b)
 
-  tail-nonzero : (ts : List Term) → ((u : Term) → u ∈ ts → (0 < u .0) × (u .0 < p)) → (t : ZMod p × Row n) → t ∈ generator p h n ts .1 → ¬ (t .0 ≡ modulo p h .zero)
+  pub tail-nonzero : (ts : List Term) → ((u : Term) → u ∈ ts → (0 < u .0) × (u .0 < p)) → (t : ZMod p × Row n) → t ∈ generator p h n ts .1 → ¬ (t .0 ≡ modulo p h .zero)
   unfolding generator
   tail-nonzero [] a t q z = absurd (List·Memᴰ·not-nil q)
   tail-nonzero (x ∷ ts) a t q z =

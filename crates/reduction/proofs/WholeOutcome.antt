@@ -4,6 +4,7 @@
 --   whole-of-passing      for such lines only check 14 is left, and what comes after
 --   whole-passed          what passes is such a basis, with at most 32 irreducible monomials
 --   AtMostOne P           at most one value has P
+--   at-0-unique           a check of the whole text has one outcome, if those after it do
 --   whole-unique          the checks have one outcome, if those after them do
 use mathlib.Core.Path.{_≡_, sym, _∙_, ap}
 use mathlib.Core.List.{List}
@@ -96,7 +97,7 @@ module _ {A : Type 0} (number : ℕ) {later : Judged A → Type 0} (one : AtMost
   at-smallest-unique Of o o′ (inr (n, l)) (inl (j, b, q, f)) = absurd (n j b)
   at-smallest-unique Of o o′ (inr (n, l)) (inr (m, l′)) = one o o′ l l′
 
-  at-0-unique : (P : Type 0) → AtMostOne (refuse number at-0-if P else later)
+  pub at-0-unique : (P : Type 0) → AtMostOne (refuse number at-0-if P else later)
   at-0-unique P o o′ (inl (a, e)) (inl (b, f)) = e ∙ sym f
   at-0-unique P o o′ (inl (a, e)) (inr (n, l)) = absurd (n a)
   at-0-unique P o o′ (inr (n, l)) (inl (b, f)) = absurd (n b)

@@ -1,0 +1,88 @@
+-- The reduced lex Groebner basis of a grevlex Groebner basis, with its standard monomials: it exists and is one.
+--   rising-list, rising-rows     rising lists, in the words of the definitions and of the theory
+--   conversion-unique            there is at most one
+--   conversion-exists            there is one
+--   conversion-standard          its standard monomials are those that its lines do not reduce, as many as are irreducible in grevlex
+--   conversion-systems           the two bases are equivalent reduction systems
+use mathlib.Core.Path.{_≡_, subst₂}
+use mathlib.Core.List.{List, [], _∷_}
+use Prim.Native.Nat.{ℕ, _<_}
+use lib.ListN.{length}
+use Rattle.residue.specs.Prime.{Prime}
+use Rattle.residue.specs.Field.{Arithmetic, ZMod, modulo}
+use Rattle.monomial.specs.Rows.{Row}
+use Rattle.monomial.specs.Orders.{variables}
+use Rattle.monomial.specs.Ordering.{MonomialOrder, rows, Lex, Grevlex}
+use Rattle.monomial.proofs.LexOrder.{lex-order, variables-rank}
+use Rattle.monomial.proofs.GrevlexOrder.{grevlex-order}
+use Rattle.groebner.specs.Lines.{Line, Lines, Reducible}
+use Rattle.groebner.specs.Bases.{Groebner}
+use Rattle.groebner.specs.Standard.{Lists}
+use Rattle.groebner.specs.Systems.{Equivalent}
+use Rattle.groebner.proofs.RisingLists.{RisingList, rising-once, rising-unique}
+use Rattle.groebner.proofs.Next.{next, next-lex, variables-ranking}
+use Rattle.groebner.proofs.EnumerationOutcome.{Outcome, outcome-exists}
+use Rattle.groebner.proofs.Equivalence.{equivalent}
+use Rattle.groebner.proofs.Instance.{ground, Converted, converted, one-basis}
+use Rattle.convert.specs.Outcome.{RisingRows, Converts}
+use Rattle.convert.proofs.EachElement.{each-at, each-of}
+
+module _ {M : Type 0} (lt : M → M → Type 0) where
+  pub rising-list : (B : List M) → RisingRows lt B → RisingList lt B
+  rising-list [] r = tt
+  rising-list (m ∷ B) r = (λ k i. each-at (lt m) B (r .0) i, rising-list B (r .1))
+
+  pub rising-rows : (B : List M) → RisingList lt B → RisingRows lt B
+  rising-rows [] r = tt
+  rising-rows (m ∷ B) r = (each-of (lt m) B (r .0), rising-rows B (r .1))
+
+module _ (p : ℕ) (prime : Prime p) (n : ℕ) (G : List (Line (ZMod p) (Row n))) where
+  abbrev h : 1 < p
+  h = prime .above-one
+
+  abbrev R : Arithmetic (ZMod p)
+  R = modulo p h
+
+  abbrev lt : Row n → Row n → Type 0
+  lt = Lex n (variables n)
+
+  order : MonomialOrder (rows n) lt
+  order = lex-order n (variables n) (variables-rank n)
+
+  pub conversion-unique : (H K : List (Line (ZMod p) (Row n))) (B C : List (Row n)) → Converts p h n G H B → Converts p h n G K C → (H ≡ K) × (B ≡ C)
+  conversion-unique H K B C a b = (
+    one-basis p prime n (variables n) (variables-rank n) H K (a .reduced) (b .reduced) (a .rising) (b .rising) (λ f. (λ x. b .ideal f .0 (a .ideal f .1 x), λ x. a .ideal f .0 (b .ideal f .1 x))),
+    rising-unique order B C (rising-list lt B (a .ascending)) (rising-list lt C (b .ascending)) (λ m i. b .standard m .0 (a .standard m .1 i)) (λ m i. a .standard m .0 (b .standard m .1 i)),
+  )
+
+  module _ (lines : Lines R (Grevlex n) G) (gb : Groebner R (rows n) (Grevlex n) G) where
+    pub conversion-systems : (H : List (Line (ZMod p) (Row n))) (B : List (Row n)) → Converts p h n G H B
+        → Equivalent R (rows n) (record { lt = Grevlex n; lines = G }) (record { lt = lt; lines = H })
+    conversion-systems H B c = equivalent (ground p prime n) _ _ (grevlex-order n) order (λ g q. lines .falling g q .0) (λ g q. c .reduced .lines .falling g q .0) gb (c .reduced .groebner) (c .ideal)
+
+    module _ (B₀ : List (Row n)) (irreducible : Lists (λ m. ¬ Reducible (rows n) G m) B₀) where
+      -- The outcome of the enumeration.
+      found : (H : List (Line (ZMod p) (Row n))) × (B : List (Row n)) × Outcome R n (Grevlex n) lt G (length B₀) H B
+      found = outcome-exists n (ground p prime n) (grevlex-order n) order (next n (variables n)) (next-lex n (variables n) (variables-ranking n)) G (λ g q. lines .falling g q .0) gb B₀ irreducible
+
+      module _ (H : List (Line (ZMod p) (Row n))) (B : List (Row n)) (o : Outcome R n (Grevlex n) lt G (length B₀) H B) where
+        is : Converted p prime n G lines (variables n) H
+        is = converted p prime n G lines gb (variables n) (variables-rank n) H (o .conversion)
+
+        found-converts : Converts p h n G H B
+        found-converts = record { reduced = is .reduced; ideal = is .ideal; rising = o .rising; standard = λ m. (o .standard .all m, o .standard .only m); ascending = rising-rows lt B (o .standard .rising) }
+
+        found-standard : Lists (λ m. ¬ Reducible (rows n) H m) B × (length B ≡ length B₀)
+        found-standard = (
+          record { once = rising-once order B (o .standard .rising); all = λ m s. o .standard .all m (is .standard m .1 s); only = λ m i. is .standard m .0 (o .standard .only m i) },
+          o .count,
+        )
+
+      pub conversion-exists : (H : List (Line (ZMod p) (Row n))) × (B : List (Row n)) × Converts p h n G H B
+      conversion-exists = let (H, B, o) = found in (H, B, found-converts H B o)
+
+      pub conversion-standard : (H : List (Line (ZMod p) (Row n))) (B : List (Row n)) → Converts p h n G H B → Lists (λ m. ¬ Reducible (rows n) H m) B × (length B ≡ length B₀)
+      conversion-standard H B c =
+          let (K, C, o) = found in
+          let (e, q) = conversion-unique K H C B (found-converts K C o) c in
+          subst₂ (λ (H : List (Line (ZMod p) (Row n))) (B : List (Row n)). Lists (λ m. ¬ Reducible (rows n) H m) B × (length B ≡ length B₀)) e q (found-standard K C o)

@@ -1,0 +1,47 @@
+-- The theorems of the crate `convert`.
+-- Bases:
+--   EachElement       what holds of every element of a list
+--   SizesSuffice      the sizes of a reduced basis with few irreducible monomials
+--   FewIrreducible    check 14: more than 32 irreducible monomials, or the list of them
+--   Conversions       the reduced lex Groebner basis and its standard monomials: existence, uniqueness, equivalence of the two systems
+-- Texts:
+--   LineTerms         the lines of a text, as terms, and the lines of polynomials that they are
+--   PassedLines       good lines make polynomials, greatest term first
+--   GoodTerms         the terms of a basis within the sizes are of the form and pass checks 6 to 10
+--   TextWidth         a text that passes checks 2 to 11 has at most 65,536 bytes
+--   RefusalNumbers    the numbers of the refusals by checks 2 to 11
+-- Outcomes:
+--   ConvertedChecks   checks 12 to 16 for a basis whose p is prime
+--   OutcomeUnique     each text and room has at most one outcome
+--   LineDecisions     decisions over the lines of a text, and the smallest line that has a property
+--   CheckDecisions    checks 12 and 15 are decided
+--   OutcomeExists     each text and room has an outcome
+--   OutcomeCases      a refusal with a number from 1 to 15, or checks 1 to 15 pass and the room decides
+-- The demands:
+--   OutputLines       the lines of the output are those of the lex basis
+--   ReadingUnique     what is read from a text is determined by its bytes
+--   Systems           demand 3 follows from the outcome
+--   Usable            demand 2, its last sentence, follows from the outcome
+--   ExactlyUsable     no other text is refused only where the output is too short
+--   Meets             the outcome is all that the converter has to prove
+pub mod EachElement
+pub mod SizesSuffice
+pub mod FewIrreducible
+pub mod Conversions
+pub mod LineTerms
+pub mod PassedLines
+pub mod GoodTerms
+pub mod TextWidth
+pub mod RefusalNumbers
+pub mod ConvertedChecks
+pub mod OutcomeUnique
+pub mod LineDecisions
+pub mod CheckDecisions
+pub mod OutcomeExists
+pub mod OutcomeCases
+pub mod OutputLines
+pub mod ReadingUnique
+pub mod Systems
+pub mod Usable
+pub mod ExactlyUsable
+pub mod Meets

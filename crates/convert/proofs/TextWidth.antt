@@ -1,0 +1,64 @@
+-- A text that passes checks 2 to 11 has at most 65,536 bytes.
+--   text-width       lines of at most k bytes each
+--   passes-width     a text that passes
+use Prim.Native.Nat.{ℕ, _+_, _*_, _≤_}
+use mathlib.Core.Path.{ap}
+use mathlib.Core.List.{List, [], _∷_, _++_, map}
+use native.Mathlib.Nat.{mul-suc}
+use native.Mathlib.Omega.{arith}
+use lib.ListN.{length, length-append, length-map}
+use Rattle.residue.specs.Prime.{largest-modulus}
+use Rattle.monomial.specs.Sizes.{most-variables}
+use Rattle.groebner.specs.Polynomials.{_∈_}
+use Rattle.tabtext.specs.Sizes.{most-bytes, most-terms, most-lines}
+use Rattle.tabtext.specs.Text.{Bytes, bytes, Each, Term, Line, header, generator, end, line, text, Number, Exponents}
+use Rattle.tabtext.specs.Printed.{printed}
+use Rattle.tabtext.proofs.Separators.{end-counted}
+use Rattle.tabtext.proofs.Widths.{SmallTerm, number-width-3, header-width, counted-width, generator-width-most}
+use Rattle.basis.specs.Checks.{Basis}
+use Rattle.basis.proofs.GoodLines.{GoodTerm, GoodLine}
+use Rattle.basis.proofs.Passes.{Passes}
+use Rattle.convert.proofs.EachElement.{each-at, each-of}
+
+pub text-width : (k : ℕ) (ls : List Line) → Each (λ l. length (printed l) ≤ k) ls → length (text ls) ≤ k * length ls
+unfolding text printed
+text-width k [] h = omega arith
+text-width k (l ∷ ls) h =
+    rw (mul-suc k (length ls))
+    (omega (arith, h .0, text-width k ls (h .1), length-append (line l) (10 ∷ text ls), length-append (line l) (10 ∷ [])))
+
+-- The widest line: 33 terms of 16 bytes.
+abbrev widest : ℕ
+widest = 5 + 16 * most-terms
+
+generator-short : (p n : ℕ) (ts : List Term) → p ≤ largest-modulus → n ≤ most-variables → GoodLine p n ts → length (printed (generator ts)) ≤ widest
+generator-short p n ts a b g = generator-width-most ts (g .size) (each-of SmallTerm ts small)
+  where
+    small : (t : Term) → t ∈ ts → SmallTerm t
+    small t i =
+        let x = each-at (GoodTerm p) ts (g .terms) i in
+        let y = each-at (λ (t : Term). Number (t .0) × Exponents n (t .1)) ts (g .form .1) i in
+        (omega (arith, x .1), (omega (arith, y .1 .0), x .2))
+
+generators-short : (p n k : ℕ) (ls : List (List Term)) → p ≤ largest-modulus → n ≤ most-variables → k ≤ most-lines → Each (GoodLine p n) ls
+    → Each (λ l. length (printed l) ≤ widest) (map generator ls ++ (end k ∷ []))
+unfolding bytes
+generators-short p n k [] a b c g = (omega (arith, ap length (end-counted k), counted-width (bytes "end") k, number-width-3 k (omega arith)), tt)
+generators-short p n k (ts ∷ ls) a b c g = (generator-short p n ts a b (g .0), generators-short p n k ls a b c (g .1))
+
+pub passes-width : (s : Bytes) (b : Basis) → Passes s b → length s ≤ most-bytes
+unfolding bytes
+passes-width s b h =
+    let ls : List Line = map generator (b .generators) ++ (end (length (b .generators)) ∷ []) in
+    let front : length (printed (header (bytes "grevlex") (b .p) (b .n))) ≤ widest =
+    let a = h .modulus .size in
+    let c = h .variables .1 in
+    omega (arith, header-width (bytes "grevlex") (b .p) (b .n), number-width-3 (b .p) (omega arith), number-width-3 (b .n) (omega arith)) in
+    omega (
+      arith,
+      ap length (h .stands),
+      text-width widest (header (bytes "grevlex") (b .p) (b .n) ∷ ls) (front, generators-short (b .p) (b .n) (length (b .generators)) (b .generators) (h .modulus .size) (h .variables .1) (h .size) (h .good)),
+      length-append (map generator (b .generators)) (end (length (b .generators)) ∷ []),
+      length-map (b .generators) generator,
+      h .size,
+    )
