@@ -23,7 +23,7 @@ use Rattle.basis.specs.Checks.{asRow}
 use Rattle.reduction.specs.Generators.{residue, generator}
 use Rattle.reduction.specs.Sound.{SoundLine}
 use Rattle.reduction.proofs.ArrayRows.{blank, row-of-terms}
-use Rattle.reduction.proofs.LineElements.{terms-length}
+use Rattle.reduction.proofs.LineElements.{enough-coefficients, terms-length}
 
 terms-at : (n : ℕ) (cs : List Residue) (ms : List Monomial) (k : ℕ) (d : Term) → k < length (termsOf n cs ms)
     → getD (termsOf n cs ms) k d ≡ (getD cs k (record { 0 = 0 }) .0, rowOf n (getD ms k blank))
@@ -58,13 +58,13 @@ module _ (p : ℕ) (h : 1 < p) (n : ℕ) where
 
   module _ (g : Generator) (s : SoundLine p n g) (filled : g .terms ≤ length (g .monomials)) where
     pub tail-length : length (tailOf g) ≡ g .terms - 1
-    tail-length = generator-length (termsIn n g) ∙ ap (_- 1) (terms-length p h n g s filled)
+    tail-length = generator-length (termsIn n g) ∙ ap (_- 1) (terms-length n g (enough-coefficients p n g s) filled)
 
     pub tail-at : (k : ℕ) → suc k < g .terms → getD (tailOf g) k (asTerm (0, [])) ≡ termAt g (suc k)
     unfolding termsIn
     tail-at k l =
         let all : List Term = termsOf n (g .coefficients) (g .monomials) in
-        let size : length (take (g .terms) all) ≡ g .terms = terms-length p h n g s filled in
+        let size : length (take (g .terms) all) ≡ g .terms = terms-length n g (enough-coefficients p n g s) filled in
         generator-at (termsIn n g) k (0, [])
         ∙ ap asTerm (getD-take (g .terms) all (suc k) (0, []) l ∙ terms-at n (g .coefficients) (g .monomials) (suc k) (0, []) (omega (arith, size, length-take (g .terms) all)))
         ∙ ap (λ a. (residue p h (getD (g .coefficients) (suc k) (record { 0 = 0 }) .0), a)) (row-of-terms n _)

@@ -4,6 +4,7 @@
 --   generator-terms     the poly line at place k has the terms of generator k
 --   lines-length        there are as many lines
 --   line-at             the line at place k is made of the terms of generator k
+--   enough-coefficients a sound generator has its coefficients in its array
 --   terms-length        a generator whose arrays have its terms has as many as it says
 --   line-monomials      the monomials of the line that a sound generator makes are the first of its array
 --   line-monomials-at   they are the rows of its monomials at the places below `terms`
@@ -74,7 +75,7 @@ terms-length n g c m = sym (length-map (termsIn n g) (λ (u : Term). asRow n (u 
     ∙ ap length (rows-of-terms n (g .terms) (g .coefficients) (g .monomials) c) ∙ rows-length n (g .terms) (g .monomials) m
 
 -- A generator whose coefficients are not 0 has them in its array.
-enough-coefficients : (p n : ℕ) (g : Generator) → SoundLine p n g → g .terms ≤ length (g .coefficients)
+pub enough-coefficients : (p n : ℕ) (g : Generator) → SoundLine p n g → g .terms ≤ length (g .coefficients)
 unfolding coefficientAt
 enough-coefficients p n g s = by-cases (decLe (g .terms) k) (λ l. l) (λ l. absurd (omega (arith, s .coefficients k (omega arith) .0, ap (λ (r : Residue). r .0) (List·getD-eq-default (g .coefficients) (record { 0 = 0 }) (le-refl k)))))
   where

@@ -1,0 +1,71 @@
+-- The loop of `reduce`: what is left of v, less one row a turn.
+--   Reducing p s v x₀ x i   x is x₀ less the first i rows times v's entries at their pivots
+--   rows-from, no-rows-from the rows from the i-th on
+--   reducing-start          before the first turn
+--   reducing-turn           a turn subtracts row i
+--   reducing-stop           after the last turn
+use mathlib.Core.Path.{_≡_, refl, sym, _∙_, ap}
+use mathlib.Core.List.{[], _∷_}
+use Prim.Native.Nat.{ℕ, suc, _+_, _<_, _≤_}
+use native.Mathlib.Numerals.{add-one}
+use native.Mathlib.Omega.{arith}
+use lib.ListN.{length, take, drop, length-map, List·getD-map}
+use lib.Seq.{drop-cons, drop-length, getD-take, length-take-le}
+use Rattle.residue.specs.Field.{Field, modulo}
+use Rattle.reduction.specs.Generators.{residue}
+use Rattle.multiplication.specs.Rows.{coordinate, Below}
+use Rattle.multiplication.specs.declared.coordinates.Coordinates.{Coordinates}
+use Rattle.fglm.specs.Vectors.{vector, Represents, unitVector}
+use Rattle.fglm.specs.RowState.{remainder, reducedRow, noRow, rowAt, state}
+use Rattle.fglm.specs.Elimination.{reduced, nothing}
+use Rattle.fglm.specs.Steps.{LessRow, LeftOf}
+use Rattle.fglm.specs.declared.elimination.Remainder.{Remainder}
+use Rattle.fglm.specs.declared.elimination.Rows.{Rows}
+use Rattle.fglm.proofs.VectorEntries.{vector-entry}
+use Rattle.fglm.proofs.ListElimination.{less, reduced-none, reduced-more}
+
+module _ (p : ℕ) (h : 1 < p) where
+  -- The rows from the i-th on.
+  pub rows-from : (s : Rows) (i : ℕ) → i < s .used → s .used ≤ length (s .rows) → drop i (state p h s) ≡ reducedRow p h (rowAt s i) ∷ drop (i + 1) (state p h s)
+  unfolding state
+  rows-from s i l m = rw add-one (drop-cons (state p h s) i (reducedRow p h noRow) (omega (arith, length-map (take (s .used) (s .rows)) (reducedRow p h), length-take-le (s .used) (s .rows) m))
+      ∙ ap (_∷ drop (suc i) (state p h s)) (List·getD-map (reducedRow p h) (take (s .used) (s .rows)) i noRow ∙ ap (reducedRow p h) (getD-take (s .used) (s .rows) i noRow l)))
+
+  pub no-rows-from : (s : Rows) (i : ℕ) → i ≡ s .used → s .used ≤ length (s .rows) → drop i (state p h s) ≡ []
+  unfolding state
+  no-rows-from s i e m = ap (λ n. drop n (state p h s)) (e ∙ sym (length-map (take (s .used) (s .rows)) (reducedRow p h) ∙ length-take-le (s .used) (s .rows) m)) ∙ drop-length (state p h s)
+
+pub record Reducing (p : ℕ) (s : Rows) (v : Coordinates) (x₀ x : Remainder) (i : ℕ) : Type 0 where
+  pub within : i ≤ s .used
+  pub row-below : Below p (x .row)
+  pub combination-below : Below p (x .combination)
+  pub left : (h : 1 < p) (field : Field (modulo p h)) → reduced p h field (nothing p) (drop i (state p h s)) (remainder p h x) (vector p h v) ≡ reduced p h field (nothing p) (state p h s) (remainder p h x₀) (vector p h v)
+
+module _ (p : ℕ) (s : Rows) (v : Coordinates) (x₀ : Remainder) where
+  pub reducing-start : Below p (x₀ .row) → Below p (x₀ .combination) → Reducing p s v x₀ x₀ 0
+  reducing-start a b = record { within = omega arith; row-below = a; combination-below = b; left = λ h field. refl }
+
+  pub reducing-turn : (x y : Remainder) (i c : ℕ) → Reducing p s v x₀ x i → i < s .used → s .used ≤ length (s .rows) → c ≡ coordinate v (rowAt s i .pivot) → LessRow p x c (rowAt s i) y → Reducing p s v x₀ y (i + 1)
+  reducing-turn x y i c r l m e q = record {
+    within = omega arith;
+    row-below = q .row .below;
+    combination-below = q .combination .below;
+    left = λ h field.
+        sym (ap (λ rs. reduced p h field (nothing p) rs (remainder p h x) (vector p h v)) (rows-from p h s i l m)
+        ∙ reduced-more p h field (nothing p) _ _ _ _
+        ∙ ap (λ z. reduced p h field (nothing p) (drop (i + 1) (state p h s)) z (vector p h v)) (ap (λ z. less p h (remainder p h x) z (reducedRow p h (rowAt s i) .row)) (vector-entry p h v _ ∙ ap (residue p h) (sym e)) ∙ sym (is h)))
+        ∙ r .left h field;
+  }
+    where
+      is : (h : 1 < p) → remainder p h y ≡ less p h (remainder p h x) (residue p h c) (reducedRow p h (rowAt s i) .row)
+      is h = λ j. record { vector = q .row .residues h j; combination = q .combination .residues h j }
+
+  pub reducing-stop : (x : Remainder) (i : ℕ) → Reducing p s v x₀ x i → s .used ≤ i → s .used ≤ length (s .rows) → x₀ .row ≡ v → Represents p (x₀ .combination) (unitVector p (s .used)) → LeftOf p s v x
+  reducing-stop x i r l m e u = record {
+    row-below = r .row-below;
+    combination-below = r .combination-below;
+    left = λ h field.
+        sym (ap (λ rs. reduced p h field (nothing p) rs (remainder p h x) (vector p h v)) (no-rows-from p h s i (omega (arith, r .within)) m) ∙ reduced-none p h field (nothing p) _ _)
+        ∙ r .left h field
+        ∙ ap (λ z. reduced p h field (nothing p) (state p h s) z (vector p h v)) (λ j. record { vector = vector p h (e j); combination = u .residues h j });
+  }

@@ -1,0 +1,75 @@
+-- Lists of residues, from the entries of vectors of the code.
+--   past-end             past the end of a vector there are zeros
+--   vector-entry         an entry of a vector as a residue
+--   length-vector        as many as the vector has
+--   vector-is            the list of a vector, by its entries
+--   Whole w              the vector has most-standard entries, as each of the code has
+--   subtracted-entries   a - c·b, by its entries
+--   multiplied-entries   c·a, by its entries
+use mathlib.Core.Path.{_≡_, sym, _∙_, ap, ap₂}
+use mathlib.Core.List.{List, map}
+use Prim.Native.Nat.{ℕ, _<_, _≤_}
+use native.Mathlib.Nat.{mod-lt}
+use native.Mathlib.Omega.{arith}
+use lib.ListN.{length, getD, length-map, List·getD-map, List·getD-eq-default}
+use lib.Seq.{ext-getD}
+use Rattle.residue.specs.Field.{ZMod, modulo}
+use Rattle.residue.specs.declared.Residue.{Residue}
+use Rattle.residue.proofs.ResidueField.{residue-ring}
+use Rattle.tabtext.specs.Sizes.{most-standard}
+use Rattle.groebner.proofs.CoefficientRows.{length-subtract-same, length-multiply, entry-subtract, entry-multiply}
+use Rattle.reduction.specs.Generators.{residue}
+use Rattle.multiplication.specs.Rows.{coordinate, Below}
+use Rattle.multiplication.specs.declared.coordinates.Coordinates.{Coordinates}
+use Rattle.fglm.specs.Vectors.{vector, Represents, subtracted, multiplied}
+use Rattle.fglm.proofs.Residues.{residue-zero, residue-product, residue-difference}
+use Rattle.residue.specs.Modular.{difference, product}
+
+pub past-end : (w : Coordinates) (k : ℕ) → length (w .c) ≤ k → coordinate w k ≡ 0
+past-end w k l = ap (λ (x : Residue). x .0) (List·getD-eq-default (w .c) (record { 0 = 0 }) l)
+
+module _ (p : ℕ) (h : 1 < p) where
+  below-product : (a b : ℕ) → product p a b < p
+  unfolding product
+  below-product a b = mod-lt _ (omega arith)
+
+  pub vector-entry : (w : Coordinates) (k : ℕ) → getD (vector p h w) k (modulo p h .zero) ≡ residue p h (coordinate w k)
+  unfolding vector
+  vector-entry w k = ap (getD (map (λ x. residue p h (x .0)) (w .c)) k) (sym (residue-zero p h)) ∙ List·getD-map (λ (x : Residue). residue p h (x .0)) (w .c) k (record { 0 = 0 })
+
+  pub length-vector : (w : Coordinates) → length (vector p h w) ≡ length (w .c)
+  unfolding vector
+  length-vector w = length-map (w .c) (λ x. residue p h (x .0))
+
+  pub vector-is : (w : Coordinates) (l : List (ZMod p)) → length (w .c) ≡ length l → ((k : ℕ) → k < length l → residue p h (coordinate w k) ≡ getD l k (modulo p h .zero)) → vector p h w ≡ l
+  vector-is w l s e = ext-getD (modulo p h .zero) (vector p h w) l (length-vector w ∙ s) (λ k m. vector-entry w k ∙ e k (omega (arith, length-vector w)))
+
+-- A vector of the code has most-standard entries.
+abbrev pub Whole : Coordinates → Type 0
+Whole w = length (w .c) ≡ most-standard
+
+module _ (p : ℕ) (r : Coordinates) (whole : Whole r) (below : Below p r) where
+  pub subtracted-entries : (a b : Coordinates) (c : ℕ) → Whole a → Whole b → Below p a
+      → ((k : ℕ) → k < most-standard → coordinate r k ≡ difference p (coordinate a k) (product p c (coordinate b k))) → Represents p r (subtracted p a c b)
+  subtracted-entries a b c u v m e = record {
+    below = below;
+    residues = λ h. vector-is p h r _ (whole ∙ sym (size h)) (λ k l. ap (residue p h) (e k (omega (arith, l, size h)))
+        ∙ residue-difference p h _ _ (m .below k) (below-product p h c (coordinate b k))
+        ∙ ap (λ x. modulo p h .add (residue p h (coordinate a k)) (modulo p h .neg x)) (residue-product p h c (coordinate b k))
+        ∙ sym (entry-subtract (residue-ring p h) (vector p h a) (residue p h c) (vector p h b) k ∙ ap₂ (λ x y. modulo p h .add x (modulo p h .neg (modulo p h .mul (residue p h c) y))) (vector-entry p h a k) (vector-entry p h b k)));
+  }
+    where
+      size : (h : 1 < p) → length (subtracted p a c b h) ≡ most-standard
+      size h = length-subtract-same (modulo p h) (vector p h a) (residue p h c) (vector p h b) (length-vector p h a ∙ u ∙ sym (length-vector p h b ∙ v)) ∙ length-vector p h a ∙ u
+
+  pub multiplied-entries : (a : Coordinates) (c : ℕ) → Whole a
+      → ((k : ℕ) → k < most-standard → coordinate r k ≡ product p c (coordinate a k)) → Represents p r (multiplied p c a)
+  multiplied-entries a c u e = record {
+    below = below;
+    residues = λ h. vector-is p h r _ (whole ∙ sym (size h)) (λ k l. ap (residue p h) (e k (omega (arith, l, size h)))
+        ∙ residue-product p h c (coordinate a k)
+        ∙ sym (entry-multiply (residue-ring p h) (residue p h c) (vector p h a) k ∙ ap (modulo p h .mul (residue p h c)) (vector-entry p h a k)));
+  }
+    where
+      size : (h : 1 < p) → length (multiplied p c a h) ≡ most-standard
+      size h = length-multiply (modulo p h) (residue p h c) (vector p h a) ∙ length-vector p h a ∙ u

@@ -1,0 +1,49 @@
+-- What the steps of the elimination give.
+--   LessRow p x c r y          y is x less c times the row r
+--   Scaled t x k q             q is x made one at place k, with the pivot k
+--   ClearedRow p q r r′        r′ is the row r cleared at q's pivot
+--   ClearedRows p q s s′       the rows of s′ are those of s cleared at q's pivot
+--   LeftOf p s v x             x is what the rows s leave of v
+use mathlib.Core.Path.{_≡_}
+use Prim.Native.Nat.{ℕ, _<_}
+use lib.ListN.{length}
+use Rattle.residue.specs.Field.{Field, modulo}
+use Rattle.residue.specs.Reciprocals.{entry}
+use Rattle.residue.specs.declared.reciprocals.Reciprocals.{Reciprocals}
+use Rattle.multiplication.specs.Rows.{coordinate, Below}
+use Rattle.multiplication.specs.declared.coordinates.Coordinates.{Coordinates}
+use Rattle.fglm.specs.Vectors.{vector, Represents, subtracted, multiplied, unitVector}
+use Rattle.fglm.specs.RowState.{remainder, rowAt, state}
+use Rattle.fglm.specs.Elimination.{reduced, nothing}
+use Rattle.fglm.specs.declared.elimination.Reduced.{Reduced}
+use Rattle.fglm.specs.declared.elimination.Remainder.{Remainder}
+use Rattle.fglm.specs.declared.elimination.Rows.{Rows}
+
+-- y is x less c times the row r.
+pub record LessRow (p : ℕ) (x : Remainder) (c : ℕ) (r : Reduced) (y : Remainder) : Type 0 where
+  pub row : Represents p (y .row) (subtracted p (x .row) c (r .row))
+  pub combination : Represents p (y .combination) (subtracted p (x .combination) c (r .combination))
+
+-- q is x times the reciprocal of its entry at place k, with the pivot k.
+pub record Scaled (t : Reciprocals) (x : Remainder) (k : ℕ) (q : Reduced) : Type 0 where
+  pub pivot : q .pivot ≡ k
+  pub row : Represents (t .p) (q .row) (multiplied (t .p) (entry t (coordinate (x .row) k)) (x .row))
+  pub combination : Represents (t .p) (q .combination) (multiplied (t .p) (entry t (coordinate (x .row) k)) (x .combination))
+
+-- r′ is the row r less the multiple of q that makes it zero at q's pivot.
+pub record ClearedRow (p : ℕ) (q r r′ : Reduced) : Type 0 where
+  pub pivot : r′ .pivot ≡ r .pivot
+  pub row : Represents p (r′ .row) (subtracted p (r .row) (coordinate (r .row) (q .pivot)) (q .row))
+  pub combination : Represents p (r′ .combination) (subtracted p (r .combination) (coordinate (r .row) (q .pivot)) (q .combination))
+
+-- The rows of s′ are those of s, cleared at q's pivot.
+pub record ClearedRows (p : ℕ) (q : Reduced) (s s′ : Rows) : Type 0 where
+  pub used : s′ .used ≡ s .used
+  pub size : length (s′ .rows) ≡ length (s .rows)
+  pub rows : (k : ℕ) → k < s .used → ClearedRow p q (rowAt s k) (rowAt s′ k)
+
+-- x is what the rows s leave of v.
+pub record LeftOf (p : ℕ) (s : Rows) (v : Coordinates) (x : Remainder) : Type 0 where
+  pub row-below : Below p (x .row)
+  pub combination-below : Below p (x .combination)
+  pub left : (h : 1 < p) (field : Field (modulo p h)) → remainder p h x ≡ reduced p h field (nothing p) (state p h s) (record { vector = vector p h v; combination = unitVector p (s .used) h }) (vector p h v)

@@ -1,0 +1,174 @@
+// Row elimination (document 01, "The walk"): rows in reduced echelon form, each with the combination of the added vectors that it is.
+ghost use mathlib.Core.Path.{_≡_};
+ghost use Prim.Native.Nat.{_<_, _≤_};
+ghost use Rattle.residue.specs.Prime.{Modulus, «largest-modulus»};
+ghost use Rattle.residue.specs.Reciprocals.{Serves};
+ghost use Rattle.tabtext.specs.Sizes.{«most-standard»};
+ghost use Rattle.multiplication.specs.Rows.{coordinate, Below};
+ghost use Rattle.fglm.specs.RowState.{SoundRow, Sound};
+ghost use Rattle.fglm.specs.Elimination.{Room, Adds};
+ghost use Rattle.fglm.specs.Steps.{LessRow, LeftOf, Scaled, ClearedRow, ClearedRows};
+use crate::vectors::Found;
+use crate::vectors::first_nonzero;
+use crate::vectors::multiply;
+use crate::vectors::subtract_multiple;
+use crate::vectors::unit;
+use multiplication::coordinates::Coordinates;
+use residue::Residue;
+use residue::reciprocals::Reciprocals;
+use tabtext::sizes::MAX_STANDARD;
+
+// A vector that is 1 at its pivot, and the combination of the added vectors that it is.
+pub struct Reduced {
+    pub pivot: usize,
+    pub row: Coordinates,
+    pub combination: Coordinates,
+}
+
+// The first of the array; coefficient k of a combination is that of the k-th vector that was added.
+pub struct Rows {
+    pub used: usize,
+    pub rows: [Reduced; MAX_STANDARD],
+}
+
+// The rows anew, and how the vector was found: with a pivot of its own and the combination of its row,
+// or dependent with the combination of the vectors before it that it is.
+pub struct Added {
+    pub rows: Rows,
+    pub found: Found,
+    pub combination: Coordinates,
+}
+
+// What is left of a vector, and the combination of the added vectors and it that this is.
+pub struct Remainder {
+    pub row: Coordinates,
+    pub combination: Coordinates,
+}
+
+impl Remainder {
+    // Less c times a row.
+    fn less(self, c: Residue, r: Reduced, p: u16) -> Remainder
+        requires { ⌜ (1 < p) × (p ≤ largest-modulus) × Below p (self .row) × Below p (self .combination) × (c .0 < p) × SoundRow p r ⌝ }
+        ensures { λ x. ⌜ LessRow p self (c .0) r x ⌝ }
+    {
+        let row = r.row;
+        let combination = r.combination;
+        Remainder {
+            row: subtract_multiple(self.row, c, row, p),
+            combination: subtract_multiple(self.combination, c, combination, p),
+        }
+    }
+
+    // Times the reciprocal of the entry at place k: a row with the pivot k.
+    fn scaled(self, k: usize, reciprocals: Reciprocals) -> Reduced
+        requires { ⌜ (1 < reciprocals .p) × Serves reciprocals × (k < most-standard) × ¬ (coordinate (self .row) k ≡ 0) × Below (reciprocals .p) (self .row) × Below (reciprocals .p) (self .combination) ⌝ }
+        ensures { λ q. ⌜ Scaled reciprocals self k q ⌝ }
+    {
+        let row = self.row;
+        let c = reciprocals.of(row.at(k));
+        Reduced {
+            pivot: k,
+            row: multiply(c, row, reciprocals.p),
+            combination: multiply(c, self.combination, reciprocals.p),
+        }
+    }
+}
+
+impl Reduced {
+    // Less the multiple of q that makes it zero at q's pivot.
+    fn cleared(self, q: Reduced, p: u16) -> Reduced
+        requires { ⌜ (1 < p) × (p ≤ largest-modulus) × SoundRow p self × SoundRow p q ⌝ }
+        ensures { λ r. ⌜ ClearedRow p q self r ⌝ }
+    {
+        let row = self.row;
+        let combination = self.combination;
+        let x = Remainder { row, combination };
+        let y = x.less(row.at(q.pivot), q, p);
+        let row = y.row;
+        let combination = y.combination;
+        Reduced {
+            pivot: self.pivot,
+            row,
+            combination,
+        }
+    }
+}
+
+impl Rows {
+    // No row is used; what stands in the array is free.
+    pub fn none() -> Rows
+        ensures { λ r. ⌜ r .used ≡ 0 ⌝ }
+    {
+        let zero = Coordinates::zero();
+        let row = Reduced {
+            pivot: 0,
+            row: zero,
+            combination: zero,
+        };
+        Rows {
+            used: 0,
+            rows: [row; MAX_STANDARD],
+        }
+    }
+
+    // v less each row times v's entry at its pivot, with the combination beside it.
+    fn reduce(self, v: Coordinates, p: u16) -> Remainder
+        requires { ⌜ (1 < p) × (p ≤ largest-modulus) × Sound p self × Below p v ⌝ }
+        ensures { λ x. ⌜ LeftOf p self v x ⌝ }
+    {
+        let mut x = Remainder {
+            row: v,
+            combination: unit(self.used, p),
+        };
+        let mut i: usize = 0;
+        while i < self.used {
+            let r = self.rows[i];
+            x = x.less(v.at(r.pivot), r, p);
+            i += 1;
+        }
+        x
+    }
+
+    // Each row less the multiple of q that makes it zero at q's pivot.
+    fn clear_rows(mut self, q: Reduced, p: u16) -> Rows
+        requires { ⌜ (1 < p) × (p ≤ largest-modulus) × Sound p self × SoundRow p q ⌝ }
+        ensures { λ r. ⌜ ClearedRows p q self r ⌝ }
+    {
+        let mut i: usize = 0;
+        while i < self.used {
+            let r = self.rows[i];
+            self.rows[i] = r.cleared(q, p);
+            i += 1;
+        }
+        self
+    }
+
+    // The rows with v added; v is told from the combinations of the vectors before it.
+    pub fn add(mut self, v: Coordinates, reciprocals: Reciprocals) -> Added
+        requires { ⌜ Modulus (reciprocals .p) × Serves reciprocals × Sound (reciprocals .p) self × Below (reciprocals .p) v × Room reciprocals self v ⌝ }
+        ensures { λ a. ⌜ Adds reciprocals self v a ⌝ }
+    {
+        let p = reciprocals.p;
+        let x = self.reduce(v, p);
+        let row = x.row;
+        let Found::Pivot(k) = first_nonzero(row) else {
+            let minus_one = Residue::ONE.neg(p);
+            return Added {
+                rows: self,
+                found: Found::Dependent,
+                combination: multiply(minus_one, x.combination, p),
+            };
+        };
+        let q = x.scaled(k, reciprocals);
+        let combination = q.combination;
+        let at = self.used;
+        self = self.clear_rows(q, p);
+        self.rows[at] = q;
+        self.used = at + 1;
+        Added {
+            rows: self,
+            found: Found::Pivot(k),
+            combination,
+        }
+    }
+}
