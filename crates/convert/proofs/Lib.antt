@@ -24,6 +24,7 @@
 --   Usable            demand 2, its last sentence, follows from the outcome
 --   ExactlyUsable     no other text is refused only where the output is too short
 --   Meets             the outcome is all that the converter has to prove
+--   LineOrder         inputs that differ only in the order of their poly lines give equal bytes
 pub mod EachElement
 pub mod SizesSuffice
 pub mod FewIrreducible
@@ -45,3 +46,4 @@ pub mod Systems
 pub mod Usable
 pub mod ExactlyUsable
 pub mod Meets
+pub mod LineOrder

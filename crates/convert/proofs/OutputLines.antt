@@ -1,5 +1,6 @@
 -- The lines of the output are those of the lex basis that was written, and those of the input are those of the basis that was read.
 --   Small n B         few monomials, with small exponents
+--   header-form       the basis line is of the form
 --   written-lines     the output of a basis within the sizes holds its lines
 --   input-lines       a text that passed checks 2 to 11 holds the lines of its basis
 use mathlib.Core.Path.{refl, sym, ap₂}
@@ -28,7 +29,7 @@ use Rattle.convert.proofs.GoodTerms.{terms-form}
 use Rattle.convert.proofs.ConvertedChecks.{linesIn}
 
 -- A basis line of either order is of the form.
-header-form : (p n : ℕ) → p ≤ largest-modulus → n ≤ most-variables → Form n (header (bytes "grevlex") p n) × Form n (header (bytes "lex") p n)
+pub header-form : (p n : ℕ) → p ≤ largest-modulus → n ≤ most-variables → Form n (header (bytes "grevlex") p n) × Form n (header (bytes "lex") p n)
 unfolding bytes
 header-form p n small few = (omega arith, omega arith)
 
@@ -60,7 +61,7 @@ written-lines p h n H B small some few sized standards = record {
     rows : tab.Each (Exponents n) (map (exponents n) B)
     rows = each-map (Exponents n) (exponents n) B (λ m i. (exponents-length n m, exponents-each Number n m (λ v l. omega (arith, standards .exponents m i v l))))
 
-pub input-lines : (input : Bytes) (b : Basis) (h : 1 < b .p) → Passes input b → InputLines input (b .p) h (b .n) (linesIn b h)
+unfoldable pub input-lines : (input : Bytes) (b : Basis) (h : 1 < b .p) → Passes input b → InputLines input (b .p) h (b .n) (linesIn b h)
 input-lines input b h w = record {
   terms = b .generators;
   form = (
