@@ -1,0 +1,42 @@
+-- The place of a monomial in grevlex order. Grevlex is lex on the sums of the first exponents, the sum of all of them first.
+--   monomialsBelow k d     C(d + k - 1, k): for d above 0 the number of monomials in k variables of degree below d
+--   prefixSum n a k        the sum of the first k exponents of a
+--   placeOfFirst n a k     the place of the first k exponents of a
+--   place n a              the place of a, from 0: as many monomials are smaller
+--   most-degree            35, the largest degree of a least common multiple of two leading monomials after checks 12 to 14
+--   space                  C(39, 4) = 82,251, the number of places up to that degree
+use Prim.Native.Nat.{ℕ, zero, suc, _+_, _-_}
+use Rattle.monomial.specs.Sizes.{most-variables}
+use Rattle.monomial.specs.Rows.{Row, exponent}
+use Rattle.tabtext.specs.Sizes.{most-standard}
+
+-- C(d + k - 1, k): in k + 1 variables, those of degree below d, and those of degree d.
+unfoldable pub monomialsBelow : ℕ → ℕ → ℕ
+monomialsBelow zero d = 1
+monomialsBelow (suc k) zero = 0
+monomialsBelow (suc k) (suc d) = monomialsBelow (suc k) d + monomialsBelow k (suc d)
+
+-- The sum of the first k exponents.
+abbrev pub prefixSum : (n : ℕ) → Row n → ℕ → ℕ
+prefixSum n a zero = 0
+prefixSum n a (suc k) = prefixSum n a k + exponent n a k
+
+-- The place of the first k exponents.
+unfoldable pub placeOfFirst : (n : ℕ) → Row n → ℕ → ℕ
+unfolding monomialsBelow
+placeOfFirst n a zero = 0
+placeOfFirst n a (suc k) = placeOfFirst n a k + monomialsBelow (suc k) (prefixSum n a (suc k))
+
+-- The place of a.
+unfoldable pub place : (n : ℕ) → Row n → ℕ
+unfolding placeOfFirst
+place n a = placeOfFirst n a n
+
+-- n + 31 for the largest n.
+abbrev pub most-degree : ℕ
+most-degree = most-variables + (most-standard - 1)
+
+-- One place for each monomial of at most that degree.
+unfoldable pub space : ℕ
+unfolding monomialsBelow
+space = monomialsBelow most-variables (suc most-degree)

@@ -1,0 +1,103 @@
+// The place of a monomial in grevlex order, from 0, and the monomial at the place before.
+ghost use mathlib.Core.Path.{_≡_};
+ghost use Prim.Native.Nat.{ℕ, suc, _≤_, _<_};
+ghost use Rattle.monomial.specs.Sizes.{«most-variables», «most-entry»};
+ghost use Rattle.monomial.specs.Rows.{exponent, degree};
+ghost use Rattle.monomial.specs.Represented.{row};
+ghost use Rattle.division.specs.GrevlexPlace.{monomialsBelow, place, «most-degree», space};
+use monomial::Exponent;
+use monomial::Monomial;
+
+// The number of monomials in four variables of degree at most 35, which the definitions have as space.
+pub const SPACE: usize = 82251;
+
+pub fn max_space() -> usize
+    ensures { λ r. ⌜ r ≡ space ⌝ }
+{
+    SPACE
+}
+
+fn number(x: Exponent) -> usize
+    ensures { λ r. ⌜ (r ≡ x .0) × (r ≤ most-entry) ⌝ }
+{
+    x.0 as usize
+}
+
+// The exponent of variable i, counted from 0.
+fn exponent(m: Monomial, i: usize) -> usize
+    requires { ⌜ i < most-variables ⌝ }
+    ensures { λ r. ⌜ ((n : ℕ) → i < n → r ≡ exponent n (row n m) i) × (r ≤ most-entry) ⌝ }
+{
+    number(m.e[i])
+}
+
+// C(d + k - 1, k), each from the one before.
+fn monomials_below(k: usize, d: usize) -> usize
+    requires { ⌜ (k ≤ most-variables) × (d ≤ suc most-degree) ⌝ }
+    ensures { λ r. ⌜ r ≡ monomialsBelow k d ⌝ }
+{
+    let mut count: usize = 1;
+    let mut j: usize = 0;
+    while j < k {
+        count = (d + j) * count / (j + 1);
+        j += 1;
+    }
+    count
+}
+
+// The sum over the first i variables, for each i from 1 to n, of C(s + i - 1, i) for the sum s of their exponents.
+pub fn place(m: Monomial, n: usize) -> usize
+    requires { ⌜ (n ≤ most-variables) × (degree n (row n m) ≤ most-degree) ⌝ }
+    ensures { λ r. ⌜ (r ≡ place n (row n m)) × (r < space) ⌝ }
+{
+    let mut at: usize = 0;
+    let mut sum: usize = 0;
+    let mut i: usize = 0;
+    while i < n {
+        sum += exponent(m, i);
+        i += 1;
+        at += monomials_below(i, sum);
+    }
+    at
+}
+
+// The first variable whose exponent is not 0; n if there is none.
+fn first_variable(m: Monomial, n: usize) -> usize
+    requires { ⌜ n ≤ most-variables ⌝ }
+    ensures before { λ r. ⌜ ((j : ℕ) → j < r → exponent n (row n m) j ≡ 0) ⌝ }
+    ensures found { λ r. ⌜ (r < n → 0 < exponent n (row n m) r) × (r ≤ n) ⌝ }
+{
+    let mut i: usize = 0;
+    while i < n {
+        if exponent(m, i) != 0 {
+            return i;
+        }
+        i += 1;
+    }
+    i
+}
+
+// m with the exponent x of variable i.
+fn with_exponent(mut m: Monomial, i: usize, x: usize) -> Monomial
+    requires { ⌜ (i < most-variables) × (x ≤ most-entry) ⌝ }
+    ensures here { λ r. ⌜ ((n : ℕ) → i < n → exponent n (row n r) i ≡ x) ⌝ }
+    ensures elsewhere { λ r. ⌜ ((n j : ℕ) → j < n → ¬ (j ≡ i) → exponent n (row n r) j ≡ exponent n (row n m) j) ⌝ }
+{
+    m.e[i] = Exponent(x as u16);
+    m
+}
+
+// The lowest sum of first exponents that is not 0 falls by 1, and all below it take its new value.
+pub fn before(m: Monomial, n: usize) -> Monomial
+    requires { ⌜ (n ≤ most-variables) × (degree n (row n m) ≤ most-degree) × (0 < place n (row n m)) ⌝ }
+    ensures { λ r. ⌜ suc (place n (row n r)) ≡ place n (row n m) ⌝ }
+{
+    let i = first_variable(m, n);
+    let x = exponent(m, i) - 1;
+    let cleared = with_exponent(m, i, 0);
+    if i + 1 == n {
+        return with_exponent(cleared, 0, x);
+    }
+    let raised = with_exponent(cleared, i + 1, exponent(m, i + 1) + 1);
+    with_exponent(raised, 0, x)
+}
