@@ -12,9 +12,17 @@
 --   TailTerms      the tail of a line of the code, term by term
 --   Passing        the test of `passes`, and the loop of `variable_through`
 --   RowRules       the three rules for the row of x_i·B_s, by the answers of the code
+--   LeastPlace     the search for the place with the least value
+--   RisingPlaces   the places of a rising list
+--   AboveAll       the test of `above`
+--   Selecting      the smallest elements of a list, in rising order
+--   Sorting        the loop of `by_grevlex`
+--   SortedLists    what a sorted list has of the list that it was made of
+--   IrreducibleLists   the sorted list of the irreducible monomials
 --   Merging        the merge of the next products
 --   AllRows        the loop of `fill`
 --   TailRows       the loop of `tail_row`
+--   GroebnerTest   rows that commute are those of a Groebner basis
 pub mod Testing
 pub mod Storing
 pub mod UnitRows
@@ -29,5 +37,13 @@ pub mod TailTerms
 pub mod TailRows
 pub mod Passing
 pub mod RowRules
+pub mod LeastPlace
+pub mod RisingPlaces
+pub mod AboveAll
+pub mod Selecting
+pub mod Sorting
+pub mod SortedLists
+pub mod IrreducibleLists
 pub mod Merging
 pub mod AllRows
+pub mod GroebnerTest

@@ -10,6 +10,7 @@ use Rattle.monomial.specs.Rows.{Row, exponent, product}
 use Rattle.monomial.specs.Ordering.{Grevlex}
 use Rattle.groebner.proofs.Variables.{variable}
 use Rattle.tabtext.specs.Sizes.{most-standard}
+use Rattle.multiplication.specs.Least.{Least}
 use Rattle.multiplication.specs.Listed.{listedAt}
 use Rattle.reduction.specs.declared.irreducible.Irreducibles.{Irreducibles}
 use Rattle.multiplication.specs.declared.fill.Cursors.{Cursors}
@@ -29,8 +30,5 @@ abbrev pub nextProduct : (n : ℕ) → Irreducibles → Cursors → ℕ → Row 
 nextProduct n l c i = product n (variable n i) (listedAt n l (cursor c i))
 
 -- Of the variables before x_j, `best` has the smallest next product; it is n where none of them has one.
-pub record Best (n : ℕ) (l : Irreducibles) (c : Cursors) (best j : ℕ) : Type 0 where
-  pub within : best ≤ n
-  pub none : n ≤ best → (k : ℕ) → k < j → l .count ≤ cursor c k
-  pub some : best < n → cursor c best < l .count
-  pub least : best < n → (k : ℕ) → k < j → cursor c k < l .count → ¬ Grevlex n (nextProduct n l c k) (nextProduct n l c best)
+abbrev pub Best : (n : ℕ) → Irreducibles → Cursors → (best j : ℕ) → Type 0
+Best n l c = Least n (Grevlex n) (λ k. cursor c k < l .count) (nextProduct n l c)

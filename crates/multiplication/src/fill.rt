@@ -29,12 +29,12 @@ use crate::place::equal;
 use crate::place::listed_at;
 use crate::place::over_variable;
 use crate::place::place_of;
+use crate::place::smaller;
 use crate::place::times_variable;
 use crate::place::variable_divides;
 use basis::Basis;
 use monomial::MAX_VARIABLES;
 use monomial::Monomial;
-use monomial::order::Comparison;
 use reduction::irreducible::Irreducibles;
 use residue::Residue;
 use tabtext::print::Generator;
@@ -161,11 +161,7 @@ fn comes_first(l: Irreducibles, c: Cursors, i: usize, j: usize, n: usize) -> boo
 {
     let a = times_variable(listed_at(l, c.at[i]), i, n);
     let b = times_variable(listed_at(l, c.at[j]), j, n);
-    let order = a.compare_grevlex(b, n);
-    match order {
-        Comparison::Less => true,
-        _ => false,
-    }
+    smaller(a, b, n)
 }
 
 // Of the best among the variables before x_j, or none, and x_j, the one with the smaller next product.

@@ -1,16 +1,18 @@
-// Places of monomials in the list of the irreducible ones, and products with a variable.
+// Places of monomials in the list of the irreducible ones, comparisons, and products with a variable.
 ghost use mathlib.Core.Path.{_≡_};
 ghost use mathlib.Core.Bool.{true};
 ghost use mathlib.Core.Logic.{_↔_};
 ghost use Prim.Native.Nat.{ℕ, _≤_, _<_};
 ghost use Rattle.monomial.specs.Sizes.{«most-variables», «most-entry»};
 ghost use Rattle.monomial.specs.Rows.{exponent, product, quotient, divides};
+ghost use Rattle.monomial.specs.Ordering.{Grevlex};
 ghost use Rattle.monomial.specs.Represented.{row};
 ghost use Rattle.tabtext.specs.Sizes.{«most-standard»};
 ghost use Rattle.groebner.proofs.Variables.{variable as «x»};
 ghost use Rattle.multiplication.specs.Listed.{listed, listedAt, Place};
 use monomial::Exponent;
 use monomial::Monomial;
+use monomial::order::Comparison;
 use reduction::irreducible::Irreducibles;
 
 // Whether the monomials are equal: each divides the other.
@@ -22,6 +24,18 @@ pub fn equal(a: Monomial, b: Monomial, n: usize) -> bool
         b.divides(a, n)
     } else {
         false
+    }
+}
+
+// Whether a is smaller than b in grevlex.
+pub fn smaller(a: Monomial, b: Monomial, n: usize) -> bool
+    requires { ⌜ n ≤ most-variables ⌝ }
+    ensures { λ r. ⌜ (r ≡ true) ↔ Grevlex n (row n a) (row n b) ⌝ }
+{
+    let order = a.compare_grevlex(b, n);
+    match order {
+        Comparison::Less => true,
+        _ => false,
     }
 }
 

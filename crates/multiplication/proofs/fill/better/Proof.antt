@@ -1,5 +1,6 @@
 -- `better` meets its contract.
-use Rattle.multiplication.proofs.Merging.{best-passed, best-first, best-new, best-kept}
+use Rattle.monomial.proofs.GrevlexOrder.{grevlex-order}
+use Rattle.multiplication.proofs.LeastPlace.{least-passed, least-first, least-new, least-kept}
 use Rattle.multiplication.proofs.Testing.{false-not-true}
 use native.Mathlib.Omega.{arith}
 use Rattle.multiplication.proofs.fill.better.Statement.{statement}
@@ -12,12 +13,12 @@ element-copy-out-if1 : tie.Need-element-copy-out-if1
 element-copy-out-if1 c = omega (arith, c .pre .0 .variables)
 
 returns : tie.Need-returns
-returns c = best-passed (c .before .before .before .pre .2) (c .if1 .taken)
+returns c = least-passed (c .before .before .before .pre .2) (λ p. omega (arith, p, c .if1 .taken))
 
 returns-2 : tie.Need-returns-2
 returns-2 c =
     let s = c .before .before .before .before in
-    best-first (s .pre .2) (s .pre .1) (c .before .if1 .left) (c .if2 .taken)
+    least-first (s .pre .2) (grevlex-order (s .args .n)) (s .pre .1) (c .before .if1 .left) (c .if2 .taken)
 
 comes-first-requires : tie.Need-comes-first-requires
 comes-first-requires c κs =
@@ -29,13 +30,13 @@ returns-3 : tie.Need-returns-3
 returns-3 c =
     let d = c .before .before in
     let s = d .before .before .before .before in
-    best-new (s .pre .2) (s .pre .1) (d .before .if1 .left) (d .if2 .left) (c .before .comes-first .ensures .0 (c .if3 .taken))
+    least-new (s .pre .2) (grevlex-order (s .args .n)) (s .pre .1) (d .before .if1 .left) (d .if2 .left) (c .before .comes-first .ensures .0 (c .if3 .taken))
 
 returns-4 : tie.Need-returns-4
 returns-4 c =
     let d = c .before .before in
     let s = d .before .before .before .before in
-    best-kept (s .pre .2) (d .if2 .left) (λ q. false-not-true (c .if3 .left) (c .before .comes-first .ensures .1 q))
+    least-kept (s .pre .2) (d .if2 .left) (λ q. false-not-true (c .if3 .left) (c .before .comes-first .ensures .1 q))
 
 pub better-spec : {M : Type 1} → statement M
 better-spec =

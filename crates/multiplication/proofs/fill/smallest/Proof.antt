@@ -2,7 +2,7 @@
 use mathlib.Core.Path.{_≡_}
 use Prim.Native.Nat.{_-_, _≤_}
 use Rattle.multiplication.specs.Cursors.{Best}
-use Rattle.multiplication.proofs.Merging.{best-start}
+use Rattle.multiplication.proofs.LeastPlace.{least-start}
 use native.Mathlib.Omega.{arith}
 use Rattle.multiplication.proofs.fill.smallest.Statement.{statement}
 use Rattle.multiplication.proofs.fill.smallest.Tie as tie
@@ -14,7 +14,7 @@ abbrev μ-loop : tie.MeasureT-loop
 μ-loop l c n best₀ j₀ best j = n - j
 
 loop-holds : tie.Need-loop-holds Inv-loop μ-loop
-loop-holds c = (omega arith, best-start)
+loop-holds c = (omega arith, least-start)
 
 better-requires : tie.Need-better-requires Inv-loop μ-loop
 better-requires c κs = (c .before .before .pre, c .loop-test .taken, c .before .loop .inv .1)

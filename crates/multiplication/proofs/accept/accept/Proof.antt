@@ -1,0 +1,30 @@
+-- `accept` meets its contract.
+use mathlib.Core.Path.{_≡_}
+use Prim.Native.Nat.{_≤_}
+use native.Mathlib.Omega.{arith}
+use borrow.Author.Needs.{needs}
+use lib.ListN.{length}
+use Rattle.tabtext.specs.Sizes.{most-standard}
+use Rattle.reduction.proofs.Elements.{length-mapped}
+use Rattle.multiplication.proofs.GroebnerTest.{acceptance}
+use Rattle.multiplication.proofs.accept.accept.Statement.{statement}
+use Rattle.multiplication.proofs.accept.accept.Tie as tie
+
+full : (c : tie.Start) → c .args .l .count ≤ length (c .args .l .monomials)
+full c = let e : length (c .args .l .monomials) ≡ most-standard = search (length-mapped, needs) in omega (arith, c .pre .1 .few)
+
+fill-requires : tie.Need-fill-requires
+fill-requires c κs = let (sound, irreducibles, lines, clear) = c .pre in (sound, irreducibles, λ h g q. lines h .falling g q .0)
+
+commute-requires : tie.Need-commute-requires
+commute-requires c κs = search needs
+
+returns : tie.Need-returns
+returns c =
+    let s = c .before .before in
+    let (sound, irreducibles, lines, clear) = s .pre in
+    let (below, filled) = c .before .fill .ensures in
+    acceptance (s .args .b) sound (s .args .l) irreducibles (full s) lines clear _ below filled (c .commute .ensures)
+
+pub accept-spec : {M : Type 1} → statement M
+accept-spec = tie.close (tie.spec fill-requires commute-requires returns)
