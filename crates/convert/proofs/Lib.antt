@@ -8,8 +8,13 @@
 --   LineTerms         the lines of a text, as terms, and the lines of polynomials that they are
 --   PassedLines       good lines make polynomials, greatest term first
 --   GoodTerms         the terms of a basis within the sizes are of the form and pass checks 6 to 10
+--   LineSequence      loops over the lines of a text
+--   LinePlaces        the poly lines of a lex basis of the code, place by place
+--   PrintedValues     what is printed for the lines and monomials of a lex basis of the code
+--   OutputParts       the output for a lex basis of the code, by its parts
 --   TextWidth         a text that passes checks 2 to 11 has at most 65,536 bytes
 --   RefusalNumbers    the numbers of the refusals by checks 2 to 11
+--   LastCheck         check 16
 -- Outcomes:
 --   ConvertedChecks   checks 12 to 16 for a basis whose p is prime
 --   OutcomeUnique     each text and room has at most one outcome
@@ -32,6 +37,11 @@ pub mod Conversions
 pub mod LineTerms
 pub mod PassedLines
 pub mod GoodTerms
+pub mod LineSequence
+pub mod LinePlaces
+pub mod PrintedValues
+pub mod OutputParts
+pub mod LastCheck
 pub mod TextWidth
 pub mod RefusalNumbers
 pub mod ConvertedChecks

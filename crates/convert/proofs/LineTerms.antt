@@ -6,7 +6,9 @@
 --   row-of-exponents       the exponents of a monomial, as a row, are the monomial
 --   generator-of-terms     the line that the terms of a line make is the line
 --   generators-of-terms    so with the lines of a basis
---   terms-of-generators    the terms of the lines that good lines make are those of the good lines
+--   Representable p h n t  a coefficient below p, and n exponents
+--   terms-of-generator     the terms of the line that monic terms make are these terms
+--   terms-of-generators    so with good lines
 use Prim.Native.Nat.{ℕ, zero, suc, _<_}
 use mathlib.Core.Path.{_≡_, refl, sym, ap, ap₂}
 use mathlib.Core.List.{List, [], _∷_, map}
@@ -22,7 +24,7 @@ use Rattle.groebner.specs.Lines.{Line, polynomial}
 use Rattle.tabtext.specs.Text.{Term, Each, Number, Exponents}
 use Rattle.tabtext.specs.Text as tab
 use Rattle.basis.specs.Checks.{asRow}
-use Rattle.basis.proofs.GoodLines.{GoodTerm, GoodLine}
+use Rattle.basis.proofs.GoodLines.{GoodTerm, Monic, GoodLine}
 use Rattle.reduction.specs.Generators.{residue, generator, generators}
 use Rattle.convert.specs.Written.{exponents, polyLine}
 
@@ -76,18 +78,27 @@ module _ (p : ℕ) (h : 1 < p) (n : ℕ) where
   generators-of-terms [] = refl
   generators-of-terms (g ∷ G) = ap₂ _∷_ (generator-of-terms g) (generators-of-terms G)
 
-  -- The terms of the line that a good line makes.
-  terms-of-generator : (ts : List Term) → GoodLine p n ts → termsOf (generator p h n ts) ≡ ts
+  -- A coefficient below p, and n exponents.
+  abbrev pub Representable : Term → Type 0
+  Representable t = (t .0 < p) × (length (t .1) ≡ n)
+
+  -- The terms of the line that monic terms make.
+  pub terms-of-generator : (ts : List Term) → Monic ts → Each Representable ts → termsOf (generator p h n ts) ≡ ts
   unfolding generator termsOf polynomial residue modulo
-  terms-of-generator [] w = absurd (w .monic)
-  terms-of-generator (t ∷ ts) w = ap₂ _∷_ (λ i. (sym (w .monic) i, exponents-of-row n (t .1) (w .form .1 .0 .1 .0) i)) (tail ts (w .terms .1) (w .form .1 .1))
+  terms-of-generator [] m w = absurd m
+  terms-of-generator (t ∷ ts) m w = ap₂ _∷_ (λ i. (sym m i, exponents-of-row n (t .1) (w .0 .1) i)) (tail ts (w .1))
     where
-      tail : (ts : List Term) → Each (GoodTerm p) ts → Each (λ (t : Term). Number (t .0) × Exponents n (t .1)) ts
+      tail : (ts : List Term) → Each Representable ts
           → map (λ (t : ZMod p × Row n). (t .0 .0, exponents n (t .1))) (map (λ (u : Term). (residue p h (u .0), asRow n (u .1))) ts) ≡ ts
-      tail [] a b = refl
-      tail (u ∷ ts) a b = ap₂ _∷_ (λ i. (mod-eq-of-lt (a .0 .1) i, exponents-of-row n (u .1) (b .0 .1 .0) i)) (tail ts (a .1) (b .1))
+      tail [] w = refl
+      tail (u ∷ ts) w = ap₂ _∷_ (λ i. (mod-eq-of-lt (w .0 .0) i, exponents-of-row n (u .1) (w .0 .1) i)) (tail ts (w .1))
+
+  representable : (ts : List Term) → Each (GoodTerm p) ts → Each (λ (t : Term). Number (t .0) × Exponents n (t .1)) ts → Each Representable ts
+  representable [] a b = tt
+  representable (t ∷ ts) a b = ((a .0 .1, b .0 .1 .0), representable ts (a .1) (b .1))
 
   pub terms-of-generators : (ls : List (List Term)) → Each (GoodLine p n) ls → map termsOf (generators p h n ls) ≡ ls
   unfolding generators
   terms-of-generators [] w = refl
-  terms-of-generators (ts ∷ ls) w = ap₂ _∷_ (terms-of-generator ts (w .0)) (terms-of-generators ls (w .1))
+  terms-of-generators (ts ∷ ls) w =
+      ap₂ _∷_ (terms-of-generator ts (w .0 .monic) (representable ts (w .0 .terms) (w .0 .form .1))) (terms-of-generators ls (w .1))

@@ -1,7 +1,7 @@
 -- The lines and the standard monomials that a lex basis of the code holds.
 --   linesOf p h n b       its lines, as lines of polynomials
 --   standardOf n b        its standard monomials
---   HeldLex p n b         its arrays have what it says, with coefficients below p
+--   HeldLex p n b         its arrays have what it says: monic lines with coefficients below p, and 0 for the exponents from place n on
 use Prim.Native.Nat.{ℕ, _≤_, _<_}
 use mathlib.Core.List.{List, map}
 use lib.ListN.{take}
@@ -14,7 +14,8 @@ use Rattle.tabtext.specs.Sizes.{most-lines, most-standard}
 use Rattle.tabtext.specs.Text.{Each}
 use Rattle.tabtext.specs.Printed.{termsIn}
 use Rattle.tabtext.specs.declared.print.Generator.{Generator}
-use Rattle.basis.specs.Answers.{HeldLine}
+use Rattle.basis.specs.Answers.{Held, HeldLine}
+use Rattle.basis.proofs.GoodLines.{Monic}
 use Rattle.reduction.specs.Generators.{generators}
 use Rattle.fglm.specs.declared.lex_basis.LexBasis.{LexBasis}
 
@@ -37,4 +38,6 @@ pub record HeldLex (p n : ℕ) (b : LexBasis) : Type 0 where
   pub lines : b .lines ≤ most-lines
   pub each : Each (HeldLine n) (take (b .lines) (b .generators))
   pub coefficients : Each (Coefficients p) (take (b .lines) (b .generators))
+  pub monic : Each (λ g. Monic (termsIn n g)) (take (b .lines) (b .generators))
   pub count : b .count ≤ most-standard
+  pub standard : Each (Held n) (take (b .count) (b .standard))
