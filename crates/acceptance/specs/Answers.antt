@@ -4,15 +4,19 @@
 --   LeadsPass b          checks 12 and 13, by the leading monomials, speak of nothing
 --   Convertible b l t    what a basis that passes has for the conversion: a reduced Groebner basis, its irreducible monomials, its multiplication rows
 --   WholeSays b v l t    the answer
+--   TextSays s b v l t   the answer to checks 2 to 15 of a text
 use Prim.Native.Nat.{ℕ, _<_}
 use mathlib.Core.Path.{_≡_}
+use mathlib.Core.Logic.{_⊎_}
+use Rattle.tabtext.specs.Text.{Bytes}
 use Rattle.residue.specs.Field.{modulo}
 use Rattle.monomial.specs.Rows.{one}
 use Rattle.monomial.specs.Ordering.{rows, Grevlex}
 use Rattle.groebner.specs.Bases.{Reduced}
 use Rattle.groebner.specs.Standard.{ZeroDimensional}
 use Rattle.groebner.proofs.MultiplicationRows.{Filled}
-use Rattle.basis.specs.Checks.{Judged, refused, passed}
+use Rattle.basis.specs.Checks.{Judged, refused, passed, Checked}
+use Rattle.basis.specs.Answers.{basisOf}
 use Rattle.basis.specs.Refusals.{number}
 use Rattle.basis.specs.declared.Basis.{Basis}
 use Rattle.basis.specs.declared.Verdict.{Verdict}
@@ -48,3 +52,8 @@ pub record Convertible (b : Basis) (l : Irreducibles) (t : Tables) : Type 0 wher
 abbrev pub WholeSays : Basis → Verdict → Irreducibles → Tables → Type 0
 WholeSays b (Refused r line) l t = Outcome b (Refused r line)
 WholeSays b Passed l t = Outcome b Passed × Convertible b l t
+
+-- The answer to checks 2 to 15 of a text s: refused by 2 to 11; or it holds the basis b, and 12 to 15 are those of b.
+abbrev pub TextSays : Bytes → Basis → Verdict → Irreducibles → Tables → Type 0
+TextSays s b (Refused r line) l t = Checked s (refused (number r) line) ⊎ (Checked s (passed (basisOf b)) × Outcome b (Refused r line))
+TextSays s b Passed l t = Checked s (passed (basisOf b)) × WholeSays b Passed l t

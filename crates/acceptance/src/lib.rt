@@ -1,4 +1,8 @@
 // Checks 12 to 15, in their order, on a basis that passed 2 to 11.
+//
+//   text    checks 2 to 15 of a text
+pub mod text;
+
 ghost use mathlib.Core.Path.{_≡_};
 ghost use Prim.Native.Nat.{_≤_};
 ghost use lib.ListN.{length};
