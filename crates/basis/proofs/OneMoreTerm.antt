@@ -52,6 +52,7 @@ longer g c m room h k =
       count = add-one (g .terms);
       terms =
           λ n. rw (add-one (g .terms), terms-take, take-suc-set, take-suc-set, terms-take) (terms-append n (take (g .terms) cs) (take (g .terms) ms) c m e);
+      coefficients = rw (add-one (g .terms), take-suc-set);
       monomials = rw (add-one (g .terms), take-suc-set);
     }
 

@@ -69,6 +69,7 @@ pub record Longer (g : Generator) (c : Residue) (m : Monomial) (r : Generator) :
   pub room : g .terms < most-terms
   pub count : r .terms ≡ suc (g .terms)
   pub terms : (n : ℕ) → termsIn n r ≡ termsIn n g ++ ((c .0, rowOf n m) ∷ [])
+  pub coefficients : take (r .terms) (r .coefficients) ≡ take (g .terms) (g .coefficients) ++ (c ∷ [])
   pub monomials : take (r .terms) (r .monomials) ≡ take (g .terms) (g .monomials) ++ (m ∷ [])
 
 -- The terms stand at the front of s, a tab before each, and no tab after them.

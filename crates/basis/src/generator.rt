@@ -40,7 +40,7 @@ pub fn empty() -> Generator
 }
 
 // A line with one term more.
-fn with_term(g: Generator, c: Residue, m: Monomial) -> Generator
+pub fn with_term(g: Generator, c: Residue, m: Monomial) -> Generator
     requires { ⌜ g .terms < most-terms ⌝ }
     ensures { λ r. ⌜ Longer g c m r ⌝ }
 {

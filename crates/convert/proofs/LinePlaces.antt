@@ -16,7 +16,7 @@ use Rattle.tabtext.specs.declared.print.Generator.{Generator}
 use Rattle.tabtext.proofs.Separators.{Stands, stands-at}
 use Rattle.basis.specs.Answers.{HeldLine}
 use Rattle.basis.proofs.EachPlace.{each-take}
-use Rattle.fglm.specs.Found.{HeldLex}
+use Rattle.fglm.specs.Found.{Printable}
 use Rattle.fglm.specs.declared.lex_basis.LexBasis.{LexBasis}
 use Rattle.convert.specs.PolyLines.{HeldLines, polyLines}
 
@@ -34,7 +34,7 @@ module _ (n : ℕ) (b : LexBasis) where
 pub line-held : (b : LexBasis) (j : ℕ) (d : Generator) → HeldLines b → j < b .lines → b .lines ≤ length (b .generators) → getD (b .generators) j d .terms ≤ most-terms
 line-held b j d w i h = each-take (λ (g : Generator). g .terms ≤ most-terms) d (b .lines) (b .generators) h .0 (w .each) j i
 
-pub held-lines : {p n : ℕ} {b : LexBasis} → HeldLex p n b → HeldLines b
+pub held-lines : {p n : ℕ} {b : LexBasis} → Printable p n b → HeldLines b
 held-lines {n = n} {b = b} w = record { lines = w .lines; each = go (take (b .lines) (b .generators)) (w .each) }
   where
     go : (l : List Generator) → Each (HeldLine n) l → Each (λ (g : Generator). g .terms ≤ most-terms) l

@@ -19,7 +19,7 @@ use Rattle.tabtext.specs.declared.print.Generator.{Generator}
 use Rattle.tabtext.proofs.Separators.{points-counted, end-counted}
 use Rattle.tabtext.proofs.Widths.{number-width-5, header-width, counted-width}
 use Rattle.reduction.specs.Generators as read
-use Rattle.fglm.specs.Found.{linesOf, standardOf, HeldLex}
+use Rattle.fglm.specs.Found.{linesOf, standardOf, Printable}
 use Rattle.fglm.specs.declared.lex_basis.LexBasis.{LexBasis}
 use Rattle.convert.specs.Written.{written}
 use Rattle.convert.specs.PolyLines.{polyLines}
@@ -45,7 +45,7 @@ text-parts l ls s c k =
     last : text (points c ∷ end k ∷ []) ≡ counted (bytes "runs") c ++ counted (bytes "end") k
     last = text-line (points c) (end k ∷ []) ∙ ap₂ _++_ (points-counted c) (text-line (end k) [] ∙ append-nil (printed (end k)) ∙ end-counted k)
 
-pub written-output : (p : ℕ) (h : 1 < p) (n : ℕ) (b : LexBasis) → HeldLex p n b → b .lines ≤ length (b .generators) → b .count ≤ length (b .standard)
+pub written-output : (p : ℕ) (h : 1 < p) (n : ℕ) (b : LexBasis) → Printable p n b → b .lines ≤ length (b .generators) → b .count ≤ length (b .standard)
     → written p h n (linesOf p h n b) (standardOf n b) ≡ output p n b
 unfolding written linesOf standardOf polyLines lines.standardOf read.generators
 written-output p h n b w i j = same ∙ text-parts (header (bytes "lex") p n) (polyLines n b) (lines.standardOf n (b .count) (b .standard)) (b .count) (b .lines)
@@ -64,7 +64,7 @@ written-output p h n b w i j = same ∙ text-parts (header (bytes "lex") p n) (p
     same = ap₂ (λ (ls : List tab.Line) (s : List (List ℕ) × ℕ × ℕ). text ((header (bytes "lex") p n ∷ ls) ++ (standard (s .0) ∷ points (s .1) ∷ end (s .2) ∷ [])))
         (lines-printed p h n G (w .each) (w .coefficients) (w .monic)) (λ i. (standard-printed n (take (b .count) (b .standard)) (w .standard) i, count i, number i))
 
-pub written-width : (p : ℕ) (h : 1 < p) (n : ℕ) (b : LexBasis) → HeldLex p n b → b .lines ≤ length (b .generators) → b .count ≤ length (b .standard)
+pub written-width : (p : ℕ) (h : 1 < p) (n : ℕ) (b : LexBasis) → Printable p n b → b .lines ≤ length (b .generators) → b .count ≤ length (b .standard)
     → length (written p h n (linesOf p h n b) (standardOf n b))
     ≡ length (printed (header (bytes "lex") p n)) + length (text (polyLines n b)) + length (printed (lines.standardOf n (b .count) (b .standard)))
     + (length (counted (bytes "runs") (b .count)) + length (counted (bytes "end") (b .lines)))

@@ -5,7 +5,7 @@
 ghost use Prim.Native.Nat.{_≤_, _<_};
 ghost use Rattle.residue.specs.Prime.{Modulus};
 ghost use Rattle.monomial.specs.Sizes.{«most-variables»};
-ghost use Rattle.fglm.specs.Found.{linesOf, standardOf, HeldLex};
+ghost use Rattle.fglm.specs.Found.{linesOf, standardOf, Printable};
 ghost use Rattle.convert.specs.Written.{written};
 ghost use Rattle.convert.specs.Finished.{Finished};
 use crate::print::output_width;
@@ -23,7 +23,7 @@ pub enum Answer {
 
 // The output, if it has room; otherwise nothing is written (document 01, refusal 16).
 fn finish(output: &mut [u8], b: LexBasis, p: u16, n: usize) -> Answer
-    requires { ⌜ HeldLex p n b × Modulus p × (1 ≤ n) × (n ≤ most-variables) ⌝ }
+    requires { ⌜ Printable p n b × Modulus p × (1 ≤ n) × (n ≤ most-variables) ⌝ }
     ensures { λ r. ⌜ ((h : 1 < p) → Finished (written p h n (linesOf p h n b) (standardOf n b)) (now (output .entry)) (now (output .exit)) r) ⌝ }
 {
     if output.len() < output_width(b, p, n) {

@@ -9,7 +9,7 @@ ghost use Rattle.monomial.specs.Sizes.{«most-variables»};
 ghost use Rattle.tabtext.specs.Sizes.{«most-terms», «most-lines»};
 ghost use Rattle.tabtext.specs.Text.{text};
 ghost use Rattle.tabtext.specs.Written.{Written};
-ghost use Rattle.fglm.specs.Found.{linesOf, standardOf, HeldLex};
+ghost use Rattle.fglm.specs.Found.{linesOf, standardOf, Printable};
 ghost use Rattle.convert.specs.PolyLines.{HeldLines, polyLines};
 ghost use Rattle.convert.specs.Written.{written};
 use fglm::lex_basis::LexBasis;
@@ -49,7 +49,7 @@ fn put_lines(out: &mut [u8], at: usize, b: LexBasis, n: usize) -> usize
 }
 
 pub fn output_width(b: LexBasis, p: u16, n: usize) -> usize
-    requires { ⌜ HeldLex p n b × (1 ≤ n) × (n ≤ most-variables) ⌝ }
+    requires { ⌜ Printable p n b × (1 ≤ n) × (n ≤ most-variables) ⌝ }
     ensures { λ r. ⌜ ((h : 1 < p) → r ≡ length (written p h n (linesOf p h n b) (standardOf n b))) ⌝ }
 {
     let front = header_width(b"lex", p, n) + lines_width(b, n);
@@ -59,7 +59,7 @@ pub fn output_width(b: LexBasis, p: u16, n: usize) -> usize
 }
 
 pub fn put_output(out: &mut [u8], b: LexBasis, p: u16, n: usize) -> usize
-    requires { ⌜ HeldLex p n b × (1 < p) × (1 ≤ n) × (n ≤ most-variables) × ((h : 1 < p) → length (written p h n (linesOf p h n b) (standardOf n b)) ≤ length (now out)) ⌝ }
+    requires { ⌜ Printable p n b × (1 < p) × (1 ≤ n) × (n ≤ most-variables) × ((h : 1 < p) → length (written p h n (linesOf p h n b) (standardOf n b)) ≤ length (now out)) ⌝ }
     ensures { λ r. ⌜ ((h : 1 < p) → Written (now (out .entry)) 0 (written p h n (linesOf p h n b) (standardOf n b)) (now (out .exit)) r) ⌝ }
 {
     let standard = b.standard;

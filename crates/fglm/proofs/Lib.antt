@@ -10,6 +10,15 @@
 --   Clearing          the loop of `clear_rows`
 --   Adding            what `add` makes of what is left of a vector
 --   Promise           what `Rows` promises of the images of monomials
+--   PlacedTerms       the terms of minus a combination, by the places of its coefficients
+--   LineTerms         the terms of the line of a dependent monomial
+--   VariableSearch    the loop of `first_variable`
+--   RowImages         the loop of `cut`, and the rules that `image_of` goes by
+--   NormalImages      the rows of the code as images of monomials
+--   WrittenMore       lines in the order of a list of monomials, and one monomial more
+--   Visits            the visits of the enumeration
+--   EnumerationLoop   the loop of `enumerate`
+--   BasisLines        the enumeration for the lines of a basis of the code
 pub mod Residues
 pub mod VectorEntries
 pub mod FilledVectors
@@ -21,3 +30,12 @@ pub mod Reducing
 pub mod Clearing
 pub mod Adding
 pub mod Promise
+pub mod PlacedTerms
+pub mod LineTerms
+pub mod VariableSearch
+pub mod RowImages
+pub mod NormalImages
+pub mod WrittenMore
+pub mod Visits
+pub mod EnumerationLoop
+pub mod BasisLines

@@ -1,7 +1,8 @@
 -- The lines and the standard monomials that a lex basis of the code holds.
 --   linesOf p h n b       its lines, as lines of polynomials
 --   standardOf n b        its standard monomials
---   HeldLex p n b         its arrays have what it says: monic lines with coefficients below p, and 0 for the exponents from place n on
+--   HeldLex p n b         its arrays have what it says, with coefficients below p
+--   Printable p n b       what its printing asks besides
 use Prim.Native.Nat.{ℕ, _≤_, _<_}
 use mathlib.Core.List.{List, map}
 use lib.ListN.{take}
@@ -35,6 +36,13 @@ Coefficients p g = Each (λ (c : Residue). (0 < c .0) × (c .0 < p)) (take (g .t
 
 -- The arrays have what the numbers say.
 pub record HeldLex (p n : ℕ) (b : LexBasis) : Type 0 where
+  pub lines : b .lines ≤ most-lines
+  pub each : Each (HeldLine n) (take (b .lines) (b .generators))
+  pub coefficients : Each (Coefficients p) (take (b .lines) (b .generators))
+  pub count : b .count ≤ most-standard
+
+-- What the printing of a lex basis asks besides: monic lines, and 0 for the exponents of the standard monomials from place n on.
+pub record Printable (p n : ℕ) (b : LexBasis) : Type 0 where
   pub lines : b .lines ≤ most-lines
   pub each : Each (HeldLine n) (take (b .lines) (b .generators))
   pub coefficients : Each (Coefficients p) (take (b .lines) (b .generators))

@@ -4,10 +4,16 @@
 --   Elimination   row elimination over these rows, and what adding a vector gives
 --   Steps         what the steps of the elimination give
 --   Images        what rows and answers say of the images of monomials
---   Found         the lines and the standard monomials that a lex basis of the code holds
+--   Found         the lines and the standard monomials of a lex basis
+--   WrittenLines  the line of a monomial that depends on standard monomials
+--   ImageRows     the row of a monomial, from those of the standard monomials
+--   Enumerable    what the enumeration asks of the lines that it converts
 pub mod Vectors
 pub mod RowState
 pub mod Elimination
 pub mod Steps
 pub mod Images
 pub mod Found
+pub mod WrittenLines
+pub mod ImageRows
+pub mod Enumerable

@@ -1,0 +1,166 @@
+-- The terms of the line that the code writes for a dependent monomial.
+--   less-none, less-more    what `less_term` makes of a line, where the coefficient is zero and where it is not
+--   FirstTerm, first-term   the line with its first term alone
+--   Writing                 what holds at the head of the loop of `line_of`: the terms of the monomials from place k on are written
+--   writing-start, writing-turn, writing-stop
+use mathlib.Core.Path.{_≡_, sym, _∙_, ap, ap₂, subst}
+use mathlib.Core.List.{List, [], _∷_, _++_, map-append, append-nil, append-assoc}
+use Prim.Native.Nat.{ℕ, suc, _+_, _-_, _≤_, _<_}
+use native.Mathlib.Nat.{mod-eq-of-lt}
+use native.Mathlib.Omega.{arith}
+use lib.ListN.{length, getD, take, drop, drop-of-length-le}
+use lib.Seq.{drop-cons}
+use Rattle.residue.specs.Modular.{negation}
+use Rattle.residue.specs.Field.{Field, ZMod, modulo}
+use Rattle.residue.specs.declared.Residue.{Residue}
+use Rattle.monomial.specs.Rows.{Row, one}
+use Rattle.monomial.specs.Ordering.{rows}
+use Rattle.monomial.specs.Represented.{row}
+use Rattle.monomial.specs.declared.Monomial.{Monomial}
+use Rattle.groebner.specs.Polynomials.{Poly}
+use Rattle.groebner.proofs.Modules.{self, opposite-null}
+use Rattle.groebner.proofs.CoefficientRows.{terms}
+use Rattle.groebner.proofs.OrderedTails.{nonzero-term, nonzero-term-cases}
+use Rattle.tabtext.specs.Sizes.{most-standard}
+use Rattle.tabtext.specs.Text.{Term, Each}
+use Rattle.tabtext.specs.Printed.{rowOf, termsOf, termsIn}
+use Rattle.tabtext.specs.declared.print.Generator.{Generator}
+use Rattle.basis.specs.Checks.{asRow}
+use Rattle.basis.specs.Answers.{Held, HeldLine, Longer}
+use Rattle.basis.proofs.ArrayRows.{asRow-rowOf}
+use Rattle.basis.proofs.EachPlace.{each-take, each-append}
+use Rattle.basis.proofs.OneMoreTerm.{held-longer}
+use Rattle.reduction.specs.Generators.{residue, generator}
+use Rattle.reduction.specs.declared.irreducible.Irreducibles.{Irreducibles}
+use Rattle.reduction.proofs.ArrayRows.{blank, rows-length, rows-at}
+use Rattle.multiplication.specs.Rows.{coordinate}
+use Rattle.multiplication.specs.Listed.{listed, listedAt}
+use Rattle.multiplication.specs.declared.coordinates.Coordinates.{Coordinates}
+use Rattle.fglm.specs.Vectors.{vector}
+use Rattle.fglm.specs.Found.{Coefficients}
+use Rattle.fglm.specs.WrittenLines.{termsAs, LessTerm, WrittenLine}
+use Rattle.fglm.proofs.Residues.{residue-zero, residue-one, residue-negation, residue-nonzero}
+use Rattle.fglm.proofs.PlacedTerms.{placed, placed-ordered}
+use Rattle.fglm.proofs.VectorEntries.{Whole, vector-entry, length-vector}
+
+negation-positive : (p c : ℕ) → 0 < c → c < p → negation p c ≡ p - c
+unfolding negation
+negation-positive p c h l = mod-eq-of-lt (omega arith)
+
+module _ (p : ℕ) (g : Generator) (c : ℕ) (m : Monomial) where
+  pub less-none : c ≡ 0 → LessTerm p g c m g
+  unfolding self
+  less-none e = record {
+    count = omega arith;
+    held = λ n k l. l;
+    coefficients = λ l. l;
+    terms = λ n h field. nonzero-term-cases field (λ f. termsAs p h n (termsIn n g) ≡ termsAs p h n (termsIn n g) ++ f) _ (row n m) (λ z. sym (append-nil _))
+        (λ q. absurd (q (ap (modulo p h .neg) (ap (residue p h) e ∙ residue-zero p h) ∙ opposite-null (self (field .ring)))));
+  }
+
+  pub less-more : ¬ (c ≡ 0) → c < p → (r : Generator) (x : Residue) → x .0 ≡ negation p c → Longer g x m r → LessTerm p g c m r
+  less-more q l r x e w = record {
+    count = omega (arith, w .count);
+    held = λ n k k′. held-longer n g r w k′ k;
+    coefficients = λ k. subst (Each _) (sym (w .coefficients)) (each-append _ (take (g .terms) (g .coefficients)) k (omega (arith, e, value), omega (arith, e, value)));
+    terms = λ n h field. ap (termsAs p h n) (w .terms n) ∙ map-append _ (termsIn n g) _
+        ∙ nonzero-term-cases field (λ f. termsAs p h n (termsIn n g) ++ ((residue p h (x .0), asRow n (rowOf n m)) ∷ []) ≡ termsAs p h n (termsIn n g) ++ f) _ (row n m)
+        (λ z. absurd (nonzero h z))
+        (λ _. ap₂ (λ y z. termsAs p h n (termsIn n g) ++ ((y, z) ∷ [])) (ap (residue p h) e ∙ residue-negation p h c l) (asRow-rowOf n m));
+  }
+    where
+      value : negation p c ≡ p - c
+      value = negation-positive p c (omega arith) l
+
+      nonzero : (h : 1 < p) → modulo p h .neg (residue p h c) ≡ modulo p h .zero → ⊥
+      nonzero h z = let k = residue-nonzero p h (negation p c) (omega (arith, value)) (residue-negation p h c l ∙ z) in omega (arith, value, k)
+
+-- The terms of a line, its first term told.
+generator-of : (p : ℕ) (h : 1 < p) (n : ℕ) (ts : List Term) (x : ZMod p) (m : Row n) (f : Poly (ZMod p) (Row n)) → termsAs p h n ts ≡ (x, m) ∷ f → generator p h n ts ≡ (m, f)
+unfolding generator
+generator-of p h n [] x m f e = absurd (omega (arith, ap length e))
+generator-of p h n (t ∷ ts) x m f e = let u : asRow n (t .1) ≡ m = ap (λ g. lead g) e in let v : termsAs p h n ts ≡ f = ap (drop 1) e in ap₂ (λ y z. (y, z)) u v
+  where
+    lead : Poly (ZMod p) (Row n) → Row n
+    lead [] = m
+    lead (t ∷ g) = t .1
+
+-- The line with the first term alone.
+pub record FirstTerm (p n : ℕ) (m : Monomial) (g : Generator) : Type 0 where
+  pub count : g .terms ≡ 1
+  pub held : HeldLine n g
+  pub coefficients : Coefficients p g
+  pub terms : (h : 1 < p) → termsAs p h n (termsIn n g) ≡ (modulo p h .one, row n m) ∷ []
+
+no-terms : (n : ℕ) (g : Generator) → g .terms ≡ 0 → termsIn n g ≡ []
+unfolding termsIn
+no-terms n g e = ap (λ k. take k (termsOf n (g .coefficients) (g .monomials))) e
+
+pub first-term : (p n : ℕ) (m : Monomial) → 1 < p → Held n m → (none g : Generator) (x : Residue) → none .terms ≡ 0 → x .0 ≡ 1 → Longer none x m g → FirstTerm p n m g
+first-term p n m above k none g x e q w = record {
+  count = omega (arith, w .count);
+  held = held-longer n none g w (omega arith, subst (λ j. Each (Held n) (take j (none .monomials))) (sym e) tt) k;
+  coefficients = subst (Each Nonzero) (sym (w .coefficients)) (each-append Nonzero (take (none .terms) (none .coefficients)) (subst (λ j. Each Nonzero (take j (none .coefficients))) (sym e) tt) (omega arith, omega arith));
+  terms = λ h. ap (termsAs p h n) (w .terms n ∙ ap (_++ ((x .0, rowOf n m) ∷ [])) (no-terms n none e))
+      ∙ ap₂ (λ y z. (y, z) ∷ []) (ap (residue p h) q ∙ residue-one p h) (asRow-rowOf n m);
+}
+  where
+    Nonzero : Residue → Type 0
+    Nonzero c = (0 < c .0) × (c .0 < p)
+
+-- The loop of `line_of`, from the line `first` on.
+module _ (p n : ℕ) (c : Coordinates) (l : Irreducibles) (first : Generator) where
+  pub record Writing (g : Generator) (k : ℕ) : Type 0 where
+    pub within : k ≤ l .count
+    pub room : g .terms + k ≤ suc (l .count)
+    pub held : HeldLine n g
+    pub coefficients : Coefficients p g
+    pub terms : (h : 1 < p) (field : Field (modulo p h)) → termsAs p h n (termsIn n g) ≡ termsAs p h n (termsIn n first) ++ placed field (drop k (listed n l)) (drop k (vector p h c))
+
+  module _ (full : l .count ≤ length (l .monomials)) where
+    listed-length : length (listed n l) ≡ l .count
+    listed-length = rows-length n (l .count) (l .monomials) full
+
+    pub writing-start : (m : Monomial) → FirstTerm p n m first → Writing first (l .count)
+    unfolding placed
+    writing-start m f = record {
+      within = omega arith;
+      room = omega (arith, f .count);
+      held = f .held;
+      coefficients = f .coefficients;
+      terms = λ h field. sym (append-nil _) ∙ ap (λ B. termsAs p h n (termsIn n first) ++ placed field B (drop (l .count) (vector p h c))) (sym (drop-of-length-le (listed n l) {i = l .count} (omega (arith, listed-length))));
+    }
+
+    module _ (fits : l .count ≤ most-standard) (whole : Whole c) where
+      pub writing-turn : Each (Held n) (take (l .count) (l .monomials)) → (g : Generator) (k j : ℕ) → suc j ≡ k → Writing g k → (x : ℕ) → x ≡ coordinate c j → (r : Generator) → LessTerm p g x (getD (l .monomials) j blank) r → Writing r j
+      unfolding placed
+      writing-turn all g k j e w x q r d = record {
+        within = omega (arith, w .within);
+        room = omega (arith, w .room, d .count);
+        held = d .held n (each-take (Held n) blank (l .count) (l .monomials) full .0 all j inside) (w .held);
+        coefficients = d .coefficients (w .coefficients);
+        terms = λ h field. d .terms n h field ∙ ap (_++ nonzero-term field (modulo p h .neg (residue p h x)) (row n (getD (l .monomials) j blank))) (w .terms h field)
+            ∙ append-assoc (termsAs p h n (termsIn n first)) _ _
+            ∙ ap (termsAs p h n (termsIn n first) ++_) (sym (ap₂ (placed field) monomials (coefficients h)
+            ∙ ap₂ (λ y z. placed field (drop k (listed n l)) (drop k (vector p h c)) ++ nonzero-term field (modulo p h .neg y) z) (vector-entry p h c j ∙ ap (residue p h) (sym q)) (rows-at n (l .count) (l .monomials) j inside)));
+      }
+        where
+          inside : j < l .count
+          inside = omega (arith, w .within)
+
+          monomials : drop j (listed n l) ≡ listedAt n l j ∷ drop k (listed n l)
+          monomials = drop-cons (listed n l) j (one n) (omega (arith, inside, listed-length)) ∙ ap (λ i. listedAt n l j ∷ drop i (listed n l)) e
+
+          coefficients : (h : 1 < p) → drop j (vector p h c) ≡ getD (vector p h c) j (modulo p h .zero) ∷ drop k (vector p h c)
+          coefficients h = drop-cons (vector p h c) j (modulo p h .zero) (omega (arith, inside, fits, whole, length-vector p h c)) ∙ ap (λ i. getD (vector p h c) j (modulo p h .zero) ∷ drop i (vector p h c)) e
+
+      pub writing-stop : (m : Monomial) → FirstTerm p n m first → (g : Generator) (k : ℕ) → k ≤ 0 → Writing g k → WrittenLine p n m c l g
+      writing-stop m f g k z w = record {
+        held = w .held;
+        coefficients = w .coefficients;
+        line = λ h field once. generator-of p h n (termsIn n g) _ _ _ (w .terms h field ∙ ap₂ (λ ts j. ts ++ placed field (drop j (listed n l)) (drop j (vector p h c))) (f .terms h) last)
+            ∙ ap (λ f. (row n m, f)) (placed-ordered field (rows n) (listed n l) (vector p h c) (omega (arith, listed-length, fits, whole, length-vector p h c)) once);
+      }
+        where
+          last : k ≡ 0
+          last = omega arith

@@ -1,0 +1,168 @@
+-- `enumerate` meets its contract. The loop's invariant: the state stands for lines and standard monomials of the theory, and m is the next to visit.
+use Prim.Native.Nat.{_+_, _*_, _-_}
+use mathlib.Core.Path.{_≡_, refl, subst}
+use mathlib.Core.Bool.{true}
+use mathlib.Core.Logic.{⊎-elim}
+use native.Mathlib.Omega.{arith}
+use borrow.Author.Needs.{needs}
+use lib.ListN.{length, take}
+use Rattle.tabtext.specs.Sizes.{most-standard}
+use Rattle.reduction.proofs.ArrayRows.{rows-length}
+use Rattle.reduction.proofs.Elements.{length-mapped}
+use Rattle.multiplication.specs.Listed.{listed}
+use Rattle.fglm.specs.Enumerable.{Convertible}
+use Rattle.fglm.proofs.VectorEntries.{Whole}
+use Rattle.fglm.proofs.EnumerationLoop.{Enumerating, VisitedOnce, enumerating-start, enumerating-stop, standard-few, next-found, next-exponents, next-few, next-lines, visit-room, standard-room, after-standard, after-line, visited-same, onward}
+use Rattle.fglm.proofs.enumeration.enumerate.Statement.{statement}
+use Rattle.fglm.proofs.enumeration.enumerate.Tie as tie
+
+abbrev Inv-loop : tie.InvT-loop
+Inv-loop l t ranking reciprocals n rows₀ images₀ standard₀ leads₀ generators₀ m₀ rows images standard leads generators m =
+    (given : Convertible reciprocals n (take n (ranking .variables)) l t) × (size : length (listed n l) ≡ l .count) × Enumerating reciprocals n (take n (ranking .variables)) l t given size rows images standard leads generators (m .found) (m .monomial)
+
+abbrev μ-loop : tie.MeasureT-loop
+μ-loop l t ranking reciprocals n rows₀ images₀ standard₀ leads₀ generators₀ m₀ rows images standard leads generators m = n * most-standard + 1 - (leads .count + standard .count)
+
+size : (c : tie.Start Inv-loop μ-loop) → length (listed (c .args .n) (c .args .l)) ≡ c .args .l .count
+size c =
+    let e : length (c .args .l .monomials) ≡ most-standard = search (length-mapped, needs) in
+    rows-length _ _ (c .args .l .monomials) (omega (arith, c .pre .few))
+
+abbrev origin : tie.At-loop Inv-loop μ-loop → tie.Start Inv-loop μ-loop
+origin c = c .before .before .before .before .before .before .before
+
+-- The monomial to visit.
+head : (c : tie.In-loop Inv-loop μ-loop) → let a = origin (c .before) .args in let x = c .before .loop in
+    Enumerating (a .reciprocals) (a .n) (take (a .n) (a .ranking .variables)) (a .l) (a .t) (x .inv .0) (x .inv .1) (x .rows) (x .images) (x .standard) (x .leads) (x .generators) true (x .m .monomial)
+head c = let a = origin (c .before) .args in let x = c .before .loop in
+    subst (λ f. Enumerating (a .reciprocals) (a .n) (take (a .n) (a .ranking .variables)) (a .l) (a .t) (x .inv .0) (x .inv .1) (x .rows) (x .images) (x .standard) (x .leads) (x .generators) f (x .m .monomial))
+    (c .loop-test .taken) (x .inv .2)
+
+whole : (c : tie.After-image-of Inv-loop μ-loop) → Whole (c .image-of .result)
+whole c = search (c .image-of .ok, length-mapped, needs)
+
+-- m is visited.
+visited : (c : tie.At-match-came Inv-loop μ-loop) → let d = c .before .before in let i = d .before .before .before in let a = origin (i .before) .args in let x = i .before .loop in
+    VisitedOnce (a .reciprocals) (a .n) (take (a .n) (a .ranking .variables)) (a .l) (a .t) (x .inv .0) (x .inv .1) (x .leads .count + x .standard .count) (d .add .result .rows) (c .match .images) (c .match .standard) (c .match .leads) (c .match .generators) (x .m .monomial)
+visited c = let d = c .before .before in let i = d .before .before .before in
+    let e = head i in
+    let image = d .before .image-of .ensures in
+    ⊎-elim
+    (λ w. visited-same _ _ _ _ _ _ _ (w .3) (w .4) (w .5) (w .6) (after-standard _ _ _ _ _ _ _ e (whole (d .before)) image (d .add .ensures) (w .1 .given .1) refl (w .2 .ensures)))
+    (λ w. visited-same _ _ _ _ _ _ _ (w .4) (w .5) (w .6) (w .7) (after-line _ _ _ _ _ _ _ e (whole (d .before)) image (d .add .ensures) (w .1 .given .1) (w .2 .ensures) (w .3 .ensures) refl))
+    (c .match .came)
+
+none-requires : tie.Need-none-requires Inv-loop μ-loop
+none-requires c κs = search needs
+
+zero-requires : tie.Need-zero-requires Inv-loop μ-loop
+zero-requires c κs = search needs
+
+no-monomials-requires : tie.Need-no-monomials-requires Inv-loop μ-loop
+no-monomials-requires c κs = search needs
+
+none-requires-2 : tie.Need-none-requires-2 Inv-loop μ-loop
+none-requires-2 c κs = search needs
+
+empty-requires : tie.Need-empty-requires Inv-loop μ-loop
+empty-requires c κs = search needs
+
+one-requires : tie.Need-one-requires Inv-loop μ-loop
+one-requires c κs = search needs
+
+loop-holds : tie.Need-loop-holds Inv-loop μ-loop
+loop-holds c =
+    let standard = c .before .before .before .no-monomials in
+    let leads = c .before .before .none2 in
+    let a = c .before .before .before .before .before .before in (
+      a .pre,
+      size a,
+      enumerating-start _ _ _ _ _ (a .pre) (size a) _ _ _ _ _ _ (c .before .before .before .before .before .none .ensures) (standard .ensures) (leads .ensures) refl (search (standard .ok, length-mapped, needs)) (search (leads .ok, length-mapped, needs)) refl (c .one .ensures),
+    )
+
+image-of-requires : tie.Need-image-of-requires Inv-loop μ-loop
+image-of-requires c κs =
+    let i = c .before in
+    let g = i .before .loop .inv .0 in
+    (g .variables, g .few, standard-few _ _ _ _ _ _ _ (head i), g .modulus .prime .above-one, g .modulus .size, g .below, head i .kept .images-below, next-found _ _ _ _ _ _ _ (head i))
+
+add-requires : tie.Need-add-requires Inv-loop μ-loop
+add-requires c κs =
+    let i = c .before .before in
+    let g = i .before .loop .inv .0 in
+    (g .modulus, g .serves, head i .kept .sound, c .image-of .ensures .below, visit-room _ _ _ _ _ _ _ (head i) (whole c) (c .image-of .ensures))
+
+enum-told : tie.Need-enum-told Inv-loop μ-loop
+enum-told c = search needs
+
+mul-w : tie.Need-mul-w Inv-loop μ-loop
+mul-w c = let i = c .before .before .before .before .before .before in omega (arith, standard-few _ _ _ _ _ _ _ (head i))
+
+element-set-from-w : tie.Need-element-set-from-w Inv-loop μ-loop
+element-set-from-w c = let d = c .before .before .before in let i = d .before .before .before in standard-room _ _ _ _ _ _ _ (head i) (whole (d .before)) (d .before .image-of .ensures) (d .add .ensures) (c .enum-told .given .1)
+
+pushed-requires : tie.Need-pushed-requires Inv-loop μ-loop
+pushed-requires c κs = let d = c .before .before .before in let i = d .before .before .before in standard-room _ _ _ _ _ _ _ (head i) (whole (d .before)) (d .before .image-of .ensures) (d .add .ensures) (c .enum-told .given .1)
+
+enum-told-2 : tie.Need-enum-told-2 Inv-loop μ-loop
+enum-told-2 c = search needs
+
+line-of-requires : tie.Need-line-of-requires Inv-loop μ-loop
+line-of-requires c κs =
+    let d = c .before .before .before in let i = d .before .before .before in
+    (i .before .loop .inv .0 .modulus .prime .above-one, standard-few _ _ _ _ _ _ _ (head i), d .add .ensures .below, head i .held, head i .kept .standard-held)
+
+mul-generators : tie.Need-mul-generators Inv-loop μ-loop
+mul-generators c = let i = c .before .before .before .before .before .before .before in omega (arith, next-lines _ _ _ _ _ _ _ (head i))
+
+array-set-from-generators : tie.Need-array-set-from-generators Inv-loop μ-loop
+array-set-from-generators c = let i = c .before .before .before .before .before .before .before in next-lines _ _ _ _ _ _ _ (head i)
+
+push-requires : tie.Need-push-requires Inv-loop μ-loop
+push-requires c κs = let i = c .before .before .before .before .before .before .before in next-lines _ _ _ _ _ _ _ (head i)
+
+next-requires : tie.Need-next-requires Inv-loop μ-loop
+next-requires c κs =
+    let i = c .before .before .before .before .before in
+    let g = i .before .loop .inv .0 in
+    (visited c .kept .lines, g .variables, g .ranking, head i .held, next-exponents _ _ _ _ _ _ _ (head i))
+
+loop-less : tie.Need-loop-less Inv-loop μ-loop
+loop-less c = let i = c .before .before .before .before .before .before in
+    omega (arith, visited (c .before) .count, next-few _ _ _ _ _ _ _ (head i))
+
+loop-again : tie.Need-loop-again Inv-loop μ-loop
+loop-again c = let x = c .before .before .before .before .before .before .before .loop in
+    (x .inv .0, x .inv .1, onward _ _ _ _ _ _ _ (visited (c .before)) _ _ (c .next .ensures .0) (c .next .ensures .1))
+
+returns : tie.Need-returns Inv-loop μ-loop
+returns c = let a = c .before .before in enumerating-stop _ _ _ _ _ _ _ (c .before .loop-test .left) (a .loop .inv .2)
+
+pub enumerate-spec : {M : Type 1} → statement M
+enumerate-spec =
+    tie.close
+    (tie.spec
+    Inv-loop
+    μ-loop
+    none-requires
+    zero-requires
+    no-monomials-requires
+    none-requires-2
+    empty-requires
+    one-requires
+    loop-holds
+    image-of-requires
+    add-requires
+    enum-told
+    mul-w
+    element-set-from-w
+    pushed-requires
+    enum-told-2
+    line-of-requires
+    mul-generators
+    array-set-from-generators
+    push-requires
+    next-requires
+    loop-less
+    loop-again
+    returns)

@@ -1,0 +1,65 @@
+-- The row of a monomial, from the rows of the standard monomials found before.
+--   imageAt f s             the row of the standard monomial at place s
+--   FirstVariable n m r     r is the first variable that divides m, or n where none does
+--   Cut w d r               r has the first d coefficients of w, and zeros after them
+--   OneRow n l r            r is one at the place of 1 in the list l, and zero elsewhere
+--   DivisorsFound n l m     m over any of its variables is in the list l
+--   ImageRule               the row of m is that of 1, or comes from that of a standard monomial
+--   ImageRow                so it is, its entries are below p, and zero past those of the list l
+use mathlib.Core.Path.{_≡_}
+use mathlib.Core.Bool.{true, false}
+use mathlib.Core.List.{[]}
+use Prim.Native.Nat.{ℕ, _≤_, _<_}
+use lib.ListN.{getD}
+use Rattle.residue.specs.Field.{modulo}
+use Rattle.monomial.specs.Rows.{Row, one, product, divides}
+use Rattle.monomial.specs.Represented.{row}
+use Rattle.monomial.specs.declared.Monomial.{Monomial}
+use Rattle.groebner.specs.Polynomials.{_∈_}
+use Rattle.groebner.proofs.Variables.{variable}
+use Rattle.groebner.proofs.MultiplicationRows.{multiply}
+use Rattle.reduction.specs.declared.irreducible.Irreducibles.{Irreducibles}
+use Rattle.multiplication.specs.Rows.{coordinate, indicator, Below, coordinatesOf, cellOf}
+use Rattle.multiplication.specs.Listed.{listed, listedAt, Place}
+use Rattle.multiplication.specs.declared.coordinates.Coordinates.{Coordinates}
+use Rattle.multiplication.specs.declared.coordinates.Tables.{Tables}
+use Rattle.fglm.specs.declared.image.Images.{Images}
+
+-- The row of the standard monomial at place s.
+abbrev pub imageAt : Images → ℕ → Coordinates
+imageAt f s = getD (f .rows) s (record { c = [] })
+
+-- r is the first variable that divides m, or n where none does.
+pub record FirstVariable (n : ℕ) (m : Row n) (r : ℕ) : Type 0 where
+  pub within : r ≤ n
+  pub found : r < n → divides n (variable n r) m ≡ true
+  pub first : (k : ℕ) → k < r → divides n (variable n k) m ≡ false
+
+-- r has the first d coefficients of w, and zeros after them.
+pub record Cut (w : Coordinates) (d : ℕ) (r : Coordinates) : Type 0 where
+  pub front : (k : ℕ) → k < d → coordinate r k ≡ coordinate w k
+  pub zeros : (k : ℕ) → d ≤ k → coordinate r k ≡ 0
+
+-- r is one at the place of 1 in the list, and zero elsewhere; zero where 1 is not in it.
+pub record OneRow (n : ℕ) (l : Irreducibles) (r : Coordinates) : Type 0 where
+  pub place : ℕ
+  pub is : Place n (listed n l) (l .count) (one n) place
+  pub front : (k : ℕ) → k < l .count → coordinate r k ≡ indicator k place
+  pub zeros : (k : ℕ) → l .count ≤ k → coordinate r k ≡ 0
+
+-- m over any of its variables is in the list.
+abbrev pub DivisorsFound : (n : ℕ) → Irreducibles → Row n → Type 0
+DivisorsFound n l m = (i : ℕ) → i < n → (b : Row n) → m ≡ product n (variable n i) b → b ∈ listed n l
+
+module _ (p n : ℕ) (m : Monomial) (found : Images) (standard : Irreducibles) (t : Tables) (l : Irreducibles) (r : Coordinates) where
+  -- r is the row of 1, or that of x_i times a standard monomial by the rows of the tables.
+  pub data ImageRule : Type 0 where
+    of-one : row n m ≡ one n → OneRow n l r → ImageRule
+    of-product : (i s : ℕ) → i < n → s < standard .count → row n m ≡ product n (variable n i) (listedAt n standard s)
+        → ((h : 1 < p) (k : ℕ) → k < l .count → coordinatesOf p h r k ≡ multiply (modulo p h) (l .count) (cellOf p h t) i (coordinatesOf p h (imageAt found s)) k) → ImageRule
+
+  -- Its entries are below p, and zero past those of the list l.
+  pub record ImageRow : Type 0 where
+    pub below : Below p r
+    pub zeros : (k : ℕ) → l .count ≤ k → coordinate r k ≡ 0
+    pub rule : ImageRule

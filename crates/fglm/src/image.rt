@@ -1,0 +1,90 @@
+// The row of a monomial, from the rows of the standard monomials found before.
+ghost use Prim.Native.Nat.{ℕ, _<_, _≤_};
+ghost use Rattle.residue.specs.Prime.{«largest-modulus»};
+ghost use Rattle.monomial.specs.Sizes.{«most-variables»};
+ghost use Rattle.monomial.specs.Represented.{row};
+ghost use Rattle.tabtext.specs.Sizes.{«most-standard»};
+ghost use Rattle.multiplication.specs.Rows.{Below, AllBelow};
+ghost use Rattle.fglm.specs.ImageRows.{imageAt, FirstVariable, Cut, OneRow, DivisorsFound, ImageRow};
+use monomial::Monomial;
+use multiplication::coordinates::Coordinates;
+use multiplication::coordinates::Tables;
+use multiplication::coordinates::apply;
+use multiplication::place::over_variable;
+use multiplication::place::place_of;
+use multiplication::place::variable_divides;
+use reduction::irreducible::Irreducibles;
+use residue::Residue;
+use tabtext::sizes::MAX_STANDARD;
+
+// The rows of the standard monomials, in turn.
+pub struct Images {
+    pub rows: [Coordinates; MAX_STANDARD],
+}
+
+// The first variable that divides m, or n where m is 1.
+fn first_variable(m: Monomial, n: usize) -> usize
+    requires { ⌜ n ≤ most-variables ⌝ }
+    ensures { λ r. ⌜ FirstVariable n (row n m) r ⌝ }
+{
+    let mut i: usize = 0;
+    while i < n {
+        if variable_divides(m, i, n) {
+            return i;
+        }
+        i += 1;
+    }
+    i
+}
+
+// The first d coefficients, and zeros after them.
+fn cut(w: Coordinates, d: usize) -> Coordinates
+    requires { ⌜ d ≤ most-standard ⌝ }
+    ensures { λ r. ⌜ Cut w d r ⌝ }
+{
+    let mut r = w;
+    let mut k = d;
+    while k < MAX_STANDARD {
+        r.c[k] = Residue::ZERO;
+        k += 1;
+    }
+    r
+}
+
+// The row of 1: zero where 1 is not listed.
+fn one_row(l: Irreducibles, n: usize) -> Coordinates
+    requires { ⌜ (n ≤ most-variables) × (l .count ≤ most-standard) ⌝ }
+    ensures { λ r. ⌜ OneRow n l r ⌝ }
+{
+    let k = place_of(l, Monomial::one(), n);
+    if k < l.count {
+        Coordinates::unit(k)
+    } else {
+        Coordinates::zero()
+    }
+}
+
+// The row of m: that of 1, or x_i times that of a standard monomial.
+pub fn image_of(
+    m: Monomial,
+    found: Images,
+    standard: Irreducibles,
+    t: Tables,
+    l: Irreducibles,
+    p: u16,
+    n: usize,
+) -> Coordinates
+    requires { ⌜
+        (n ≤ most-variables) × (l .count ≤ most-standard) × (standard .count ≤ most-standard) × (1 < p) × (p ≤ largest-modulus) × AllBelow p t
+        × ((s : ℕ) → s < standard .count → Below p (imageAt found s)) × DivisorsFound n standard (row n m)
+        ⌝ }
+    ensures { λ r. ⌜ ImageRow p n m found standard t l r ⌝ }
+{
+    let i = first_variable(m, n);
+    if n <= i {
+        return one_row(l, n);
+    }
+    let b = over_variable(m, i, n);
+    let w = found.rows[place_of(standard, b, n)];
+    cut(apply(t, i, w, l.count, p), l.count)
+}
