@@ -4,16 +4,20 @@
 pub mod text;
 
 ghost use mathlib.Core.Path.{_≡_};
-ghost use Prim.Native.Nat.{_≤_};
-ghost use lib.ListN.{length};
+ghost use Prim.Native.Nat.{_<_};
+ghost use Rattle.residue.specs.Field.{modulo};
+ghost use Rattle.monomial.specs.Ordering.{rows, Grevlex};
 ghost use Rattle.basis.specs.declared.Verdict.the-variants.{Refused};
+ghost use Rattle.reduction.specs.Generators.{linesOf};
 ghost use Rattle.reduction.specs.Leads.{LeadsOf};
 ghost use Rattle.reduction.specs.Sound.{Sound};
-ghost use Rattle.division.specs.GrevlexPlace.{space};
+ghost use Rattle.reduction.specs.Whole.{Failing, Smallest};
+ghost use Rattle.division.specs.PairRemainders.{LowPairs};
 ghost use Rattle.acceptance.specs.Answers.{LeadsPass, WholeSays};
 use basis::Basis;
 use basis::Verdict;
 use basis::refusal::Refusal;
+use division::grevlex::SPACE;
 use division::pairs::first_failing;
 use monomial::Monomial;
 use multiplication::accept::accept;
@@ -51,9 +55,18 @@ fn refused(r: Refusal, line: usize) -> WholeCheck
     }
 }
 
+// The line that 15 names, by division on an array of its own.
+fn failing_line(b: Basis) -> usize
+    requires { ⌜ Sound b × LowPairs b ⌝ }
+    ensures { λ r. ⌜ ((h : 1 < b .p) → Smallest (Failing (modulo (b .p) h) (rows (b .n)) (linesOf b h) (Grevlex (b .n))) r) ⌝ }
+{
+    let mut work = [0; SPACE];
+    first_failing(&mut work, b)
+}
+
 // 14 and 15, after 12 and 13.
-fn check_irreducibles(work: &mut [u16], b: Basis, leads: Leads) -> WholeCheck
-    requires { ⌜ Sound b × LeadsOf b (leads .count) (leads .monomials) × LeadsPass b × (space ≤ length (now work)) ⌝ }
+fn check_irreducibles(b: Basis, leads: Leads) -> WholeCheck
+    requires { ⌜ Sound b × LeadsOf b (leads .count) (leads .monomials) × LeadsPass b ⌝ }
     ensures { λ r. ⌜ WholeSays b (r .verdict) (r .irreducibles) (r .tables) ⌝ }
 {
     let l = list_irreducibles(leads, b.n);
@@ -63,8 +76,7 @@ fn check_irreducibles(work: &mut [u16], b: Basis, leads: Leads) -> WholeCheck
     let s = by_grevlex(l, b.n);
     let a = accept(b, s);
     if !a.groebner {
-        let k = first_failing(&mut *work, b);
-        return refused(Refusal::NotGroebner, k);
+        return refused(Refusal::NotGroebner, failing_line(b));
     }
     let tables = a.tables;
     WholeCheck {
@@ -75,8 +87,8 @@ fn check_irreducibles(work: &mut [u16], b: Basis, leads: Leads) -> WholeCheck
 }
 
 // 12 to 15.
-pub fn check_whole(b: Basis, work: &mut [u16]) -> WholeCheck
-    requires { ⌜ Sound b × (space ≤ length (now work)) ⌝ }
+pub fn check_whole(b: Basis) -> WholeCheck
+    requires { ⌜ Sound b ⌝ }
     ensures { λ r. ⌜ WholeSays b (r .verdict) (r .irreducibles) (r .tables) ⌝ }
 {
     let leads = Leads::of(b);
@@ -87,5 +99,5 @@ pub fn check_whole(b: Basis, work: &mut [u16]) -> WholeCheck
     if !leads.zero_dimensional(b.n) {
         return refused(Refusal::NotZeroDimensional, 0);
     }
-    check_irreducibles(&mut *work, b, leads)
+    check_irreducibles(b, leads)
 }

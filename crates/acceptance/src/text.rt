@@ -1,9 +1,6 @@
 // Checks 2 to 15 of a text: its lines in turn, and then the whole basis.
-ghost use Prim.Native.Nat.{_≤_};
-ghost use lib.ListN.{length};
 ghost use Rattle.basis.specs.Checks.{passed, Checked};
 ghost use Rattle.basis.specs.Answers.{basisOf, HeldBasis};
-ghost use Rattle.division.specs.GrevlexPlace.{space};
 ghost use Rattle.acceptance.specs.Answers.{WholeSays, TextSays};
 use crate::WholeCheck;
 use crate::check_whole;
@@ -19,16 +16,15 @@ pub struct TextCheck {
 }
 
 // 12 to 15, for the basis that was read from a text.
-fn check_read(b: Basis, text: &[u8], work: &mut [u16]) -> WholeCheck
-    requires { ⌜ Checked (now text) (passed (basisOf b)) × HeldBasis b × (space ≤ length (now work)) ⌝ }
+fn check_read(b: Basis, text: &[u8]) -> WholeCheck
+    requires { ⌜ Checked (now text) (passed (basisOf b)) × HeldBasis b ⌝ }
     ensures { λ r. ⌜ WholeSays b (r .verdict) (r .irreducibles) (r .tables) ⌝ }
 {
-    check_whole(b, work)
+    check_whole(b)
 }
 
 // 2 to 15.
-pub fn check_text(text: &[u8], work: &mut [u16]) -> TextCheck
-    requires { ⌜ space ≤ length (now work) ⌝ }
+pub fn check_text(text: &[u8]) -> TextCheck
     ensures { λ r. ⌜ TextSays (now (text .entry)) (r .basis) (r .whole .verdict) (r .whole .irreducibles) (r .whole .tables) ⌝ }
 {
     let r = read_basis(text);
@@ -37,7 +33,7 @@ pub fn check_text(text: &[u8], work: &mut [u16]) -> TextCheck
     match verdict {
         Verdict::Passed => TextCheck {
             basis,
-            whole: check_read(basis, text, work),
+            whole: check_read(basis, text),
         },
         Verdict::Refused(reason, line) => TextCheck {
             basis,

@@ -1,6 +1,5 @@
 -- The poly lines that pass checks 6 to 10.
 --   GoodTerm p t       the coefficient is 1 to p - 1, and no exponent is over 32
---   Monic ts           the first coefficient is 1
 --   Falling n ts       each term is smaller in grevlex than the one before it
 --   GoodLine p n ts    a poly line of the form, of good terms, monic, falling, of at most 33 terms
 --   skipped, required  a check passes if its condition does not hold; if what it requires does
@@ -18,15 +17,11 @@ use Rattle.monomial.specs.Sizes.{most-exponent}
 use Rattle.monomial.specs.Ordering.{Grevlex}
 use Rattle.tabtext.specs.Sizes.{most-lines, most-terms}
 use Rattle.tabtext.specs.Text.{Each, Term, generator, Form}
-use Rattle.basis.specs.Checks.{asRow, checkTerm, checkTerms, checkGenerator}
+use Rattle.basis.specs.Checks.{asRow, Monic, checkTerm, checkTerms, checkGenerator}
 use Rattle.basis.proofs.Tests.{Decides, holds, fails, both-decides, le-decides, eq-decides, each-decides, smaller-decides}
 
 abbrev pub GoodTerm : ℕ → Term → Type 0
 GoodTerm p t = (1 ≤ t .0) × (t .0 < p) × Each (λ e. e ≤ most-exponent) (t .1)
-
-abbrev pub Monic : List Term → Type 0
-Monic [] = ⊥
-Monic (t ∷ ts) = t .0 ≡ 1
 
 abbrev pub Falling : ℕ → List Term → Type 0
 Falling n [] = Unit

@@ -6,6 +6,7 @@
 --   checkHeader                3, 4, 5 on the basis line
 --   checkTerm, checkFirst, checkNext    6, 7 on a term; 6, 7, 9 on the first; 10, 6, 7, 8 on a later one
 --   checkTerms, checkGenerator          the later terms of a poly line; 10 and then the terms of a poly line
+--   Monic ts                   the first coefficient of a poly line is 1
 --   checkEnd                   11 on the end line
 --   Front n s l rest           the line l stands at the front of s
 --   Remaining p n o got s      o is the outcome of the lines s that come after the basis line and the poly lines `got`
@@ -92,6 +93,11 @@ checkGenerator p n k (t ∷ ts) =
     refuse 10 if most-lines < k else
     checkFirst p t (
     checkTerms p n 2 t ts)
+
+-- The first coefficient is 1, as 9 asks.
+abbrev pub Monic : List Term → Type 0
+Monic [] = ⊥
+Monic (t ∷ ts) = t .0 ≡ 1
 
 -- The end line after k poly lines: 11.
 abbrev pub checkEnd : (k count : ℕ) → Option ℕ → Type 0

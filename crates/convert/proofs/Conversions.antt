@@ -1,6 +1,7 @@
 -- The reduced lex Groebner basis of a grevlex Groebner basis, with its standard monomials: it exists and is one.
 --   rising-list, rising-rows     rising lists, in the words of the definitions and of the theory
 --   conversion-unique            there is at most one
+--   outcome-converts             the outcome of the enumeration is one
 --   conversion-exists            there is one
 --   conversion-standard          its standard monomials are those that its lines do not reduce, as many as are irreducible in grevlex
 --   conversion-systems           the two bases are equivalent reduction systems
@@ -60,29 +61,29 @@ module _ (p : ℕ) (prime : Prime p) (n : ℕ) (G : List (Line (ZMod p) (Row n))
         → Equivalent R (rows n) (record { lt = Grevlex n; lines = G }) (record { lt = lt; lines = H })
     conversion-systems H B c = equivalent (ground p prime n) _ _ (grevlex-order n) order (λ g q. lines .falling g q .0) (λ g q. c .reduced .lines .falling g q .0) gb (c .reduced .groebner) (c .ideal)
 
+    module _ (D : ℕ) (H : List (Line (ZMod p) (Row n))) (B : List (Row n)) (o : Outcome R n (Grevlex n) lt G D H B) where
+      is : Converted p prime n G lines (variables n) H
+      is = converted p prime n G lines gb (variables n) (variables-rank n) H (o .conversion)
+
+      pub outcome-converts : Converts p h n G H B
+      outcome-converts = record { reduced = is .reduced; ideal = is .ideal; rising = o .rising; standard = λ m. (o .standard .all m, o .standard .only m); ascending = rising-rows lt B (o .standard .rising) }
+
+      outcome-standard : Lists (λ m. ¬ Reducible (rows n) H m) B × (length B ≡ D)
+      outcome-standard = (
+        record { once = rising-once order B (o .standard .rising); all = λ m s. o .standard .all m (is .standard m .1 s); only = λ m i. is .standard m .0 (o .standard .only m i) },
+        o .count,
+      )
+
     module _ (B₀ : List (Row n)) (irreducible : Lists (λ m. ¬ Reducible (rows n) G m) B₀) where
       -- The outcome of the enumeration.
       found : (H : List (Line (ZMod p) (Row n))) × (B : List (Row n)) × Outcome R n (Grevlex n) lt G (length B₀) H B
       found = outcome-exists n (ground p prime n) (grevlex-order n) order (next n (variables n)) (next-lex n (variables n) (variables-ranking n)) G (λ g q. lines .falling g q .0) gb B₀ irreducible
 
-      module _ (H : List (Line (ZMod p) (Row n))) (B : List (Row n)) (o : Outcome R n (Grevlex n) lt G (length B₀) H B) where
-        is : Converted p prime n G lines (variables n) H
-        is = converted p prime n G lines gb (variables n) (variables-rank n) H (o .conversion)
-
-        found-converts : Converts p h n G H B
-        found-converts = record { reduced = is .reduced; ideal = is .ideal; rising = o .rising; standard = λ m. (o .standard .all m, o .standard .only m); ascending = rising-rows lt B (o .standard .rising) }
-
-        found-standard : Lists (λ m. ¬ Reducible (rows n) H m) B × (length B ≡ length B₀)
-        found-standard = (
-          record { once = rising-once order B (o .standard .rising); all = λ m s. o .standard .all m (is .standard m .1 s); only = λ m i. is .standard m .0 (o .standard .only m i) },
-          o .count,
-        )
-
       pub conversion-exists : (H : List (Line (ZMod p) (Row n))) × (B : List (Row n)) × Converts p h n G H B
-      conversion-exists = let (H, B, o) = found in (H, B, found-converts H B o)
+      conversion-exists = let (H, B, o) = found in (H, B, outcome-converts (length B₀) H B o)
 
       pub conversion-standard : (H : List (Line (ZMod p) (Row n))) (B : List (Row n)) → Converts p h n G H B → Lists (λ m. ¬ Reducible (rows n) H m) B × (length B ≡ length B₀)
       conversion-standard H B c =
           let (K, C, o) = found in
-          let (e, q) = conversion-unique K H C B (found-converts K C o) c in
-          subst₂ (λ (H : List (Line (ZMod p) (Row n))) (B : List (Row n)). Lists (λ m. ¬ Reducible (rows n) H m) B × (length B ≡ length B₀)) e q (found-standard K C o)
+          let (e, q) = conversion-unique K H C B (outcome-converts (length B₀) K C o) c in
+          subst₂ (λ (H : List (Line (ZMod p) (Row n))) (B : List (Row n)). Lists (λ m. ¬ Reducible (rows n) H m) B × (length B ≡ length B₀)) e q (outcome-standard (length B₀) K C o)

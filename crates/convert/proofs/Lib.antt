@@ -42,6 +42,8 @@ pub mod LinePlaces
 pub mod PrintedValues
 pub mod OutputParts
 pub mod LastCheck
+pub mod Converting
+pub mod TextOutcome
 pub mod TextWidth
 pub mod RefusalNumbers
 pub mod ConvertedChecks

@@ -14,9 +14,8 @@ use Rattle.tabtext.specs.Text.{Each}
 use Rattle.tabtext.specs.Printed.{generatorOf}
 use Rattle.tabtext.specs.declared.print.Generator.{Generator}
 use Rattle.tabtext.proofs.Separators.{Stands, stands-at}
-use Rattle.basis.specs.Answers.{HeldLine}
 use Rattle.basis.proofs.EachPlace.{each-take}
-use Rattle.fglm.specs.Found.{Printable}
+use Rattle.fglm.specs.Found.{PrintableLine, Printable}
 use Rattle.fglm.specs.declared.lex_basis.LexBasis.{LexBasis}
 use Rattle.convert.specs.PolyLines.{HeldLines, polyLines}
 
@@ -35,8 +34,8 @@ pub line-held : (b : LexBasis) (j : ℕ) (d : Generator) → HeldLines b → j <
 line-held b j d w i h = each-take (λ (g : Generator). g .terms ≤ most-terms) d (b .lines) (b .generators) h .0 (w .each) j i
 
 pub held-lines : {p n : ℕ} {b : LexBasis} → Printable p n b → HeldLines b
-held-lines {n = n} {b = b} w = record { lines = w .lines; each = go (take (b .lines) (b .generators)) (w .each) }
+held-lines {p} {n} {b} w = record { lines = w .lines; each = go (take (b .lines) (b .generators)) (w .each) }
   where
-    go : (l : List Generator) → Each (HeldLine n) l → Each (λ (g : Generator). g .terms ≤ most-terms) l
+    go : (l : List Generator) → Each (PrintableLine p n) l → Each (λ (g : Generator). g .terms ≤ most-terms) l
     go [] e = tt
-    go (g ∷ l) e = (e .0 .0, go l (e .1))
+    go (g ∷ l) e = (e .0 .held .0, go l (e .1))

@@ -23,8 +23,8 @@ use Rattle.groebner.specs.Polynomials.{Poly}
 use Rattle.groebner.specs.Lines.{Line, polynomial}
 use Rattle.tabtext.specs.Text.{Term, Each, Number, Exponents}
 use Rattle.tabtext.specs.Text as tab
-use Rattle.basis.specs.Checks.{asRow}
-use Rattle.basis.proofs.GoodLines.{GoodTerm, Monic, GoodLine}
+use Rattle.basis.specs.Checks.{asRow, Monic}
+use Rattle.basis.proofs.GoodLines.{GoodTerm, GoodLine}
 use Rattle.reduction.specs.Generators.{residue, generator, generators}
 use Rattle.convert.specs.Written.{exponents, polyLine}
 

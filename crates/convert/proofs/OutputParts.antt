@@ -62,7 +62,7 @@ written-output p h n b w i j = same ∙ text-parts (header (bytes "lex") p n) (p
     same : written p h n (linesOf p h n b) (standardOf n b)
         ≡ text ((header (bytes "lex") p n ∷ polyLines n b) ++ (lines.standardOf n (b .count) (b .standard) ∷ points (b .count) ∷ end (b .lines) ∷ []))
     same = ap₂ (λ (ls : List tab.Line) (s : List (List ℕ) × ℕ × ℕ). text ((header (bytes "lex") p n ∷ ls) ++ (standard (s .0) ∷ points (s .1) ∷ end (s .2) ∷ [])))
-        (lines-printed p h n G (w .each) (w .coefficients) (w .monic)) (λ i. (standard-printed n (take (b .count) (b .standard)) (w .standard) i, count i, number i))
+        (lines-printed p h n G (w .each)) (λ i. (standard-printed n (take (b .count) (b .standard)) (w .standard) i, count i, number i))
 
 pub written-width : (p : ℕ) (h : 1 < p) (n : ℕ) (b : LexBasis) → Printable p n b → b .lines ≤ length (b .generators) → b .count ≤ length (b .standard)
     → length (written p h n (linesOf p h n b) (standardOf n b))

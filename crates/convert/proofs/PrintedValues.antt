@@ -16,10 +16,9 @@ use Rattle.tabtext.specs.Text.{Each, generator}
 use Rattle.tabtext.specs.Printed.{rowOf, termsOf, termsIn, generatorOf}
 use Rattle.tabtext.specs.declared.print.Generator.{Generator}
 use Rattle.tabtext.proofs.Values.{row-length}
-use Rattle.basis.specs.Answers.{Held, HeldLine}
-use Rattle.basis.proofs.GoodLines.{Monic}
+use Rattle.basis.specs.Answers.{Held}
 use Rattle.reduction.specs.Generators as read
-use Rattle.fglm.specs.Found.{Coefficients}
+use Rattle.fglm.specs.Found.{PrintableLine}
 use Rattle.convert.specs.Written.{exponents, polyLine}
 use Rattle.convert.proofs.LineTerms as line
 use Rattle.convert.proofs.LineTerms.{Representable}
@@ -59,13 +58,12 @@ module _ (p : ℕ) (h : 1 < p) (n : ℕ) where
   terms-representable (suc k) (c ∷ cs) [] a b = tt
   terms-representable (suc k) (c ∷ cs) (m ∷ ms) a b = ((a .0 .1, held-row n m (b .0)), terms-representable k cs ms (a .1) (b .1))
 
-  line-printed : (g : Generator) → HeldLine n g → Coefficients p g → Monic (termsIn n g) → polyLine p h n (read.generator p h n (termsIn n g)) ≡ generatorOf n g
+  line-printed : (g : Generator) → PrintableLine p n g → polyLine p h n (read.generator p h n (termsIn n g)) ≡ generatorOf n g
   unfolding polyLine line.termsOf termsIn generatorOf
-  line-printed g w c m =
-      ap generator (line.terms-of-generator p h n (termsIn n g) m (terms-representable (g .terms) (g .coefficients) (g .monomials) c (w .1)))
+  line-printed g w =
+      ap generator (line.terms-of-generator p h n (termsIn n g) (w .monic) (terms-representable (g .terms) (g .coefficients) (g .monomials) (w .coefficients) (w .held .1)))
 
-  pub lines-printed : (l : List Generator) → Each (HeldLine n) l → Each (Coefficients p) l → Each (λ g. Monic (termsIn n g)) l
-      → map (polyLine p h n) (read.generators p h n (map (termsIn n) l)) ≡ map (generatorOf n) l
+  pub lines-printed : (l : List Generator) → Each (PrintableLine p n) l → map (polyLine p h n) (read.generators p h n (map (termsIn n) l)) ≡ map (generatorOf n) l
   unfolding read.generators
-  lines-printed [] w c m = refl
-  lines-printed (g ∷ l) w c m = ap₂ _∷_ (line-printed g (w .0) (c .0) (m .0)) (lines-printed l (w .1) (c .1) (m .1))
+  lines-printed [] w = refl
+  lines-printed (g ∷ l) w = ap₂ _∷_ (line-printed g (w .0)) (lines-printed l (w .1))

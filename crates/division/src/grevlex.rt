@@ -6,10 +6,16 @@ ghost use Rattle.monomial.specs.Rows.{exponent, degree};
 ghost use Rattle.monomial.specs.Represented.{row};
 ghost use Rattle.division.specs.GrevlexPlace.{monomialsBelow, place, «most-degree», space};
 use monomial::Exponent;
+use monomial::MAX_VARIABLES;
 use monomial::Monomial;
+use tabtext::sizes::MAX_STANDARD;
 
-// The number of monomials in four variables of degree at most 35, which the definitions have as space.
-pub const SPACE: usize = 82251;
+// The largest degree of a monomial, which the definitions have as most-degree.
+const MAX_DEGREE: usize = MAX_VARIABLES + (MAX_STANDARD - 1);
+
+// C(d + 4, 4) for that degree d: the number of monomials in four variables, which the definitions have as space.
+pub const SPACE: usize = (MAX_DEGREE + 1) * (MAX_DEGREE + 2) * (MAX_DEGREE + 3) * (MAX_DEGREE + 4)
+    / 24;
 
 pub fn max_space() -> usize
     ensures { λ r. ⌜ r ≡ space ⌝ }

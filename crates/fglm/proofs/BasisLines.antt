@@ -2,13 +2,14 @@
 --   enumerable       what the enumeration asks of the lines, from what the caller knows of the basis
 --   convertible      the lines of a basis that are a Groebner basis can be converted, with the reciprocals of its modulus
 --   converted-at     what the enumeration gives, over that modulus
-use Prim.Native.Nat.{ℕ, _<_}
+use Prim.Native.Nat.{ℕ, _≤_, _<_}
 use mathlib.Core.Path.{_≡_, sym, subst}
 use mathlib.Core.List.{List}
 use Rattle.residue.specs.Prime.{Prime, Modulus}
 use Rattle.residue.specs.Field.{ZMod, modulo}
 use Rattle.residue.specs.Reciprocals.{Serves}
 use Rattle.residue.specs.declared.reciprocals.Reciprocals.{Reciprocals}
+use Rattle.monomial.specs.Sizes.{most-variables}
 use Rattle.monomial.specs.Rows.{Row, one}
 use Rattle.monomial.specs.Ordering.{Lex, Grevlex, rows}
 use Rattle.monomial.proofs.GrevlexOrder.{grevlex-order}
@@ -21,12 +22,11 @@ use Rattle.groebner.proofs.RisingLists.{rising-once}
 use Rattle.groebner.proofs.EnumerationOutcome.{Outcome}
 use Rattle.basis.specs.declared.Basis.{Basis}
 use Rattle.reduction.specs.Generators as read
-use Rattle.reduction.specs.Sound.{Sound}
 use Rattle.reduction.specs.declared.irreducible.Irreducibles.{Irreducibles}
 use Rattle.multiplication.specs.Rows.{AllBelow, cellOf}
 use Rattle.multiplication.specs.Listed.{listed, ListsIrreducibles}
 use Rattle.multiplication.specs.declared.coordinates.Tables.{Tables}
-use Rattle.fglm.specs.Found.{linesOf, standardOf, HeldLex}
+use Rattle.fglm.specs.Found.{linesOf, standardOf, Printable}
 use Rattle.fglm.specs.Enumerable.{Enumerable, Convertible, Enumerated}
 use Rattle.fglm.specs.declared.lex_basis.LexBasis.{LexBasis}
 
@@ -34,7 +34,7 @@ module _ (b : Basis) (t : Reciprocals) (same : t .p ≡ b .p) (s : List ℕ) (l 
   abbrev n : ℕ
   n = b .n
 
-  module _ (sound : Sound b) (irreducibles : ListsIrreducibles b l) (serves : Serves t) (ranking : Ranking n s) (below : AllBelow (b .p) tables) (low : (h : 1 < b .p) → Low (Grevlex n) (read.linesOf b h))
+  module _ (modulus : Modulus (b .p)) (sizes : (1 ≤ n) × (n ≤ most-variables)) (irreducibles : ListsIrreducibles b l) (serves : Serves t) (ranking : Ranking n s) (below : AllBelow (b .p) tables) (low : (h : 1 < b .p) → Low (Grevlex n) (read.linesOf b h))
       (clear : (h : 1 < b .p) → Clear (modulo (b .p) h) (rows n) (read.linesOf b h)) (groebner : (h : 1 < b .p) → Groebner (modulo (b .p) h) (rows n) (Grevlex n) (read.linesOf b h))
       (filled : (h : 1 < b .p) (i : ℕ) → i < n → (k : ℕ) → k < l .count → Filled (modulo (b .p) h) n (read.linesOf b h) (listed n l) (one n) (cellOf (b .p) h tables) i k) where
     pub enumerable : (prime : Prime (b .p)) → Enumerable (b .p) prime n l tables (read.linesOf b (prime .above-one))
@@ -48,20 +48,20 @@ module _ (b : Basis) (t : Reciprocals) (same : t .p ≡ b .p) (s : List ℕ) (l 
 
     pub convertible : Convertible t n s l tables
     convertible = record {
-      modulus = subst Modulus (sym same) (sound .modulus);
+      modulus = subst Modulus (sym same) modulus;
       serves = serves;
-      some-variable = sound .variables .0;
-      variables = sound .variables .1;
+      some-variable = sizes .0;
+      variables = sizes .1;
       ranking = ranking;
       few = irreducibles .few;
       below = subst (λ p. AllBelow p tables) (sym same) below;
       lines = subst (λ p. (prime : Prime p) → (G : List (Line (ZMod p) (Row n))) × Enumerable p prime n l tables G) (sym same) (λ prime. (read.linesOf b (prime .above-one), enumerable prime));
     }
 
-    pub converted-at : (r : LexBasis) → Enumerated t n s l tables r → HeldLex (b .p) n r
+    pub converted-at : (r : LexBasis) → Enumerated t n s l tables r → Printable (b .p) n r
         × ((prime : Prime (b .p)) → Outcome (modulo (b .p) (prime .above-one)) n (Grevlex n) (Lex n s) (read.linesOf b (prime .above-one)) (l .count) (linesOf (b .p) (prime .above-one) n r) (standardOf n r))
     converted-at r e = (
-      subst (λ p. HeldLex p n r) same (e .held),
+      subst (λ p. Printable p n r) same (e .printable),
       λ prime. subst (λ p. (prime : Prime p) (G : List (Line (ZMod p) (Row n))) → Enumerable p prime n l tables G
           → Outcome (modulo p (prime .above-one)) n (Grevlex n) (Lex n s) G (l .count) (linesOf p (prime .above-one) n r) (standardOf n r)) same (e .outcome) prime _ (enumerable prime),
     )

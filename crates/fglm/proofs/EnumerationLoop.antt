@@ -2,7 +2,6 @@
 --   Kept            the parts of the state are within their arrays, and their entries are below p
 --   Enumerating     what holds at the loop's head
 --   VisitedOnce     what holds after a visit
---   visited-same    the same of an equal state
 --   enumerating-start, enumerating-stop
 --   standard-few    there is room for the standard monomials
 --   next-found, next-exponents, next-few, next-lines    what is known of the monomial to visit
@@ -36,7 +35,7 @@ use Rattle.groebner.proofs.Successors.{UpTo}
 use Rattle.tabtext.specs.Sizes.{most-standard, most-lines}
 use Rattle.tabtext.specs.Text.{Each}
 use Rattle.tabtext.specs.declared.print.Generator.{Generator}
-use Rattle.basis.specs.Answers.{Held, HeldLine}
+use Rattle.basis.specs.Answers.{Held}
 use Rattle.basis.proofs.EachPlace.{each-append}
 use Rattle.reduction.specs.Generators.{generators}
 use Rattle.reduction.specs.Leads.{rowsOf, multiple, NextIs}
@@ -52,7 +51,7 @@ use Rattle.fglm.specs.RowState.{Sound}
 use Rattle.fglm.specs.Elimination.{Room, Adds, Grown}
 use Rattle.fglm.specs.ImageRows.{imageAt, DivisorsFound, ImageRow}
 use Rattle.fglm.specs.WrittenLines.{WrittenLine}
-use Rattle.fglm.specs.Found.{linesOf, standardOf, Coefficients}
+use Rattle.fglm.specs.Found.{linesOf, standardOf, PrintableLine}
 use Rattle.fglm.specs.Enumerable.{Enumerable, Convertible, Enumerated, Pushed}
 use Rattle.fglm.specs.declared.elimination.Added.{Added}
 use Rattle.fglm.specs.declared.elimination.Rows.{Rows}
@@ -73,8 +72,7 @@ pub record Kept (p n : ℕ) (rs : Rows) (images : Images) (standard : Irreducibl
   pub leads-size : length (ls .monomials) ≡ most-lines
   pub lines : ls .count ≤ most-lines
   pub lines-size : length gs ≡ most-lines
-  pub lines-held : Each (HeldLine n) (take (ls .count) gs)
-  pub coefficients : Each (Coefficients p) (take (ls .count) gs)
+  pub printable : Each (PrintableLine p n) (take (ls .count) gs)
 
 module _ (t : Reciprocals) (n : ℕ) (s : List ℕ) (l : Irreducibles) (tables : Tables) where
   abbrev Lines : Type 0
@@ -104,10 +102,6 @@ module _ (t : Reciprocals) (n : ℕ) (s : List ℕ) (l : Irreducibles) (tables :
           → (H : Lines) × Progressed 𝓢 rs images standard ls gs H
           × Seen n (sequences (residue-field (t .p) (𝓢 .prime) .ring)) (L 𝓢) (Lex n s) (UpTo (Lex n s) (row n m)) H (listed n standard)
 
-    pub visited-same : {b : ℕ} {rs : Rows} {images images₁ : Images} {standard standard₁ : Irreducibles} {ls ls₁ : Leads} {gs gs₁ : List Generator} {m : Monomial} → images ≡ images₁ → standard ≡ standard₁ → ls ≡ ls₁ → gs ≡ gs₁
-        → VisitedOnce b rs images₁ standard₁ ls₁ gs₁ m → VisitedOnce b rs images standard ls gs m
-    visited-same {b} {rs} {images₁ = i} {standard} {standard₁ = d} {ls} {ls₁ = l} {gs} {gs₁ = g} {m} e f k u v = subst (λ i. VisitedOnce b rs i standard ls gs m) (sym e) (subst (λ d. VisitedOnce b rs i d ls gs m) (sym f) (subst (λ l. VisitedOnce b rs i d l gs m) (sym k) (subst (λ g. VisitedOnce b rs i d l g m) (sym u) v)))
-
     pub enumerating-start : (rs : Rows) (images : Images) (standard : Irreducibles) (ls : Leads) (gs : List Generator) (m : Monomial) → rs .used ≡ 0 → standard .count ≡ 0 → ls .count ≡ 0
         → length (images .rows) ≡ most-standard → length (standard .monomials) ≡ most-standard → length (ls .monomials) ≡ most-lines → length gs ≡ most-lines
         → m ≡ monomial most-variables (one most-variables) → Enumerating rs images standard ls gs true m
@@ -122,8 +116,7 @@ module _ (t : Reciprocals) (n : ℕ) (s : List ℕ) (l : Irreducibles) (tables :
         leads-size = k;
         lines = omega arith;
         lines-size = u;
-        lines-held = subst (λ d. Each (HeldLine n) (take d gs)) (sym g) tt;
-        coefficients = subst (λ d. Each (Coefficients (t .p)) (take d gs)) (sym g) tt;
+        printable = subst (λ d. Each (PrintableLine (t .p) n) (take d gs)) (sym g) tt;
       };
       held = held n (one n) (q ∙ one-held n (given .variables));
       stage = λ 𝓢. let w = progressed-none 𝓢 rs images standard ls gs e f g in
@@ -182,8 +175,7 @@ module _ (t : Reciprocals) (n : ℕ) (s : List ℕ) (l : Irreducibles) (tables :
                   leads-size = e .kept .leads-size;
                   lines = e .kept .lines;
                   lines-size = e .kept .lines-size;
-                  lines-held = e .kept .lines-held;
-                  coefficients = e .kept .coefficients;
+                  printable = e .kept .printable;
                 };
                 count = omega (arith, more .count);
                 seen = λ 𝓢. let (H, q, v) = e .stage 𝓢 in
@@ -217,8 +209,7 @@ module _ (t : Reciprocals) (n : ℕ) (s : List ℕ) (l : Irreducibles) (tables :
                 leads-size = ap length leads ∙ length-set (ls .monomials) (ls .count) m ∙ e .kept .leads-size;
                 lines = omega (arith, next-lines);
                 lines-size = ap length stored ∙ length-set gs (ls .count) g ∙ e .kept .lines-size;
-                lines-held = subst (Each (HeldLine n)) (sym taken) (each-append (HeldLine n) (take (ls .count) gs) (e .kept .lines-held) (written .held));
-                coefficients = subst (Each (Coefficients (t .p))) (sym taken) (each-append (Coefficients (t .p)) (take (ls .count) gs) (e .kept .coefficients) (written .coefficients));
+                printable = subst (Each (PrintableLine (t .p) n)) (sym taken) (each-append (PrintableLine (t .p) n) (take (ls .count) gs) (e .kept .printable) (written .printable));
               };
               count = omega (arith, count);
               seen = λ 𝓢. let (H, q, v) = e .stage 𝓢 in
@@ -250,7 +241,7 @@ module _ (t : Reciprocals) (n : ℕ) (s : List ℕ) (l : Irreducibles) (tables :
           → Enumerated t n s l tables (record { lines = ls .count; generators = gs; count = standard .count; standard = standard .monomials })
       unfolding linesOf standardOf rowsOf setting
       enumerating-stop e v = record {
-        held = record { lines = v .kept .lines; each = v .kept .lines-held; coefficients = v .kept .coefficients; count = standard-few v };
+        printable = record { lines = v .kept .lines; each = v .kept .printable; count = standard-few v; standard = v .kept .standard-held };
         outcome = λ prime G en. let 𝓢 = setting prime G en in let (H, q, u) = v .stage 𝓢 in
             visits-end 𝓢 q (subst (λ f. Stage 𝓢 H (listed n standard) f (row n m)) e u);
       }

@@ -25,8 +25,8 @@ use Rattle.tabtext.specs.Sizes.{most-standard}
 use Rattle.tabtext.specs.Text.{Term, Each}
 use Rattle.tabtext.specs.Printed.{rowOf, termsOf, termsIn}
 use Rattle.tabtext.specs.declared.print.Generator.{Generator}
-use Rattle.basis.specs.Checks.{asRow}
-use Rattle.basis.specs.Answers.{Held, HeldLine, Longer}
+use Rattle.basis.specs.Checks.{asRow, Monic}
+use Rattle.basis.specs.Answers.{Held, Longer}
 use Rattle.basis.proofs.ArrayRows.{asRow-rowOf}
 use Rattle.basis.proofs.EachPlace.{each-take, each-append}
 use Rattle.basis.proofs.OneMoreTerm.{held-longer}
@@ -37,7 +37,7 @@ use Rattle.multiplication.specs.Rows.{coordinate}
 use Rattle.multiplication.specs.Listed.{listed, listedAt}
 use Rattle.multiplication.specs.declared.coordinates.Coordinates.{Coordinates}
 use Rattle.fglm.specs.Vectors.{vector}
-use Rattle.fglm.specs.Found.{Coefficients}
+use Rattle.fglm.specs.Found.{PrintableLine}
 use Rattle.fglm.specs.WrittenLines.{termsAs, LessTerm, WrittenLine}
 use Rattle.fglm.proofs.Residues.{residue-zero, residue-one, residue-negation, residue-nonzero}
 use Rattle.fglm.proofs.PlacedTerms.{placed, placed-ordered}
@@ -47,13 +47,16 @@ negation-positive : (p c : ℕ) → 0 < c → c < p → negation p c ≡ p - c
 unfolding negation
 negation-positive p c h l = mod-eq-of-lt (omega arith)
 
+monic-append : (ts us : List Term) → Monic ts → Monic (ts ++ us)
+monic-append [] us m = absurd m
+monic-append (t ∷ ts) us m = m
+
 module _ (p : ℕ) (g : Generator) (c : ℕ) (m : Monomial) where
   pub less-none : c ≡ 0 → LessTerm p g c m g
   unfolding self
   less-none e = record {
     count = omega arith;
-    held = λ n k l. l;
-    coefficients = λ l. l;
+    printable = λ n k w. w;
     terms = λ n h field. nonzero-term-cases field (λ f. termsAs p h n (termsIn n g) ≡ termsAs p h n (termsIn n g) ++ f) _ (row n m) (λ z. sym (append-nil _))
         (λ q. absurd (q (ap (modulo p h .neg) (ap (residue p h) e ∙ residue-zero p h) ∙ opposite-null (self (field .ring)))));
   }
@@ -61,8 +64,11 @@ module _ (p : ℕ) (g : Generator) (c : ℕ) (m : Monomial) where
   pub less-more : ¬ (c ≡ 0) → c < p → (r : Generator) (x : Residue) → x .0 ≡ negation p c → Longer g x m r → LessTerm p g c m r
   less-more q l r x e w = record {
     count = omega (arith, w .count);
-    held = λ n k k′. held-longer n g r w k′ k;
-    coefficients = λ k. subst (Each _) (sym (w .coefficients)) (each-append _ (take (g .terms) (g .coefficients)) k (omega (arith, e, value), omega (arith, e, value)));
+    printable = λ n k line. record {
+      held = held-longer n g r w (line .held) k;
+      coefficients = subst (Each _) (sym (w .coefficients)) (each-append _ (take (g .terms) (g .coefficients)) (line .coefficients) (omega (arith, e, value), omega (arith, e, value)));
+      monic = subst Monic (sym (w .terms n)) (monic-append (termsIn n g) _ (line .monic));
+    };
     terms = λ n h field. ap (termsAs p h n) (w .terms n) ∙ map-append _ (termsIn n g) _
         ∙ nonzero-term-cases field (λ f. termsAs p h n (termsIn n g) ++ ((residue p h (x .0), asRow n (rowOf n m)) ∷ []) ≡ termsAs p h n (termsIn n g) ++ f) _ (row n m)
         (λ z. absurd (nonzero h z))
@@ -88,8 +94,7 @@ generator-of p h n (t ∷ ts) x m f e = let u : asRow n (t .1) ≡ m = ap (λ g.
 -- The line with the first term alone.
 pub record FirstTerm (p n : ℕ) (m : Monomial) (g : Generator) : Type 0 where
   pub count : g .terms ≡ 1
-  pub held : HeldLine n g
-  pub coefficients : Coefficients p g
+  pub printable : PrintableLine p n g
   pub terms : (h : 1 < p) → termsAs p h n (termsIn n g) ≡ (modulo p h .one, row n m) ∷ []
 
 no-terms : (n : ℕ) (g : Generator) → g .terms ≡ 0 → termsIn n g ≡ []
@@ -99,22 +104,27 @@ no-terms n g e = ap (λ k. take k (termsOf n (g .coefficients) (g .monomials))) 
 pub first-term : (p n : ℕ) (m : Monomial) → 1 < p → Held n m → (none g : Generator) (x : Residue) → none .terms ≡ 0 → x .0 ≡ 1 → Longer none x m g → FirstTerm p n m g
 first-term p n m above k none g x e q w = record {
   count = omega (arith, w .count);
-  held = held-longer n none g w (omega arith, subst (λ j. Each (Held n) (take j (none .monomials))) (sym e) tt) k;
-  coefficients = subst (Each Nonzero) (sym (w .coefficients)) (each-append Nonzero (take (none .terms) (none .coefficients)) (subst (λ j. Each Nonzero (take j (none .coefficients))) (sym e) tt) (omega arith, omega arith));
-  terms = λ h. ap (termsAs p h n) (w .terms n ∙ ap (_++ ((x .0, rowOf n m) ∷ [])) (no-terms n none e))
+  printable = record {
+    held = held-longer n none g w (omega arith, subst (λ j. Each (Held n) (take j (none .monomials))) (sym e) tt) k;
+    coefficients = subst (Each Nonzero) (sym (w .coefficients)) (each-append Nonzero (take (none .terms) (none .coefficients)) (subst (λ j. Each Nonzero (take j (none .coefficients))) (sym e) tt) (omega arith, omega arith));
+    monic = subst Monic (sym alone) q;
+  };
+  terms = λ h. ap (termsAs p h n) alone
       ∙ ap₂ (λ y z. (y, z) ∷ []) (ap (residue p h) q ∙ residue-one p h) (asRow-rowOf n m);
 }
   where
     Nonzero : Residue → Type 0
     Nonzero c = (0 < c .0) × (c .0 < p)
 
+    alone : termsIn n g ≡ (x .0, rowOf n m) ∷ []
+    alone = w .terms n ∙ ap (_++ ((x .0, rowOf n m) ∷ [])) (no-terms n none e)
+
 -- The loop of `line_of`, from the line `first` on.
 module _ (p n : ℕ) (c : Coordinates) (l : Irreducibles) (first : Generator) where
   pub record Writing (g : Generator) (k : ℕ) : Type 0 where
     pub within : k ≤ l .count
     pub room : g .terms + k ≤ suc (l .count)
-    pub held : HeldLine n g
-    pub coefficients : Coefficients p g
+    pub printable : PrintableLine p n g
     pub terms : (h : 1 < p) (field : Field (modulo p h)) → termsAs p h n (termsIn n g) ≡ termsAs p h n (termsIn n first) ++ placed field (drop k (listed n l)) (drop k (vector p h c))
 
   module _ (full : l .count ≤ length (l .monomials)) where
@@ -126,8 +136,7 @@ module _ (p n : ℕ) (c : Coordinates) (l : Irreducibles) (first : Generator) wh
     writing-start m f = record {
       within = omega arith;
       room = omega (arith, f .count);
-      held = f .held;
-      coefficients = f .coefficients;
+      printable = f .printable;
       terms = λ h field. sym (append-nil _) ∙ ap (λ B. termsAs p h n (termsIn n first) ++ placed field B (drop (l .count) (vector p h c))) (sym (drop-of-length-le (listed n l) {i = l .count} (omega (arith, listed-length))));
     }
 
@@ -137,8 +146,7 @@ module _ (p n : ℕ) (c : Coordinates) (l : Irreducibles) (first : Generator) wh
       writing-turn all g k j e w x q r d = record {
         within = omega (arith, w .within);
         room = omega (arith, w .room, d .count);
-        held = d .held n (each-take (Held n) blank (l .count) (l .monomials) full .0 all j inside) (w .held);
-        coefficients = d .coefficients (w .coefficients);
+        printable = d .printable n (each-take (Held n) blank (l .count) (l .monomials) full .0 all j inside) (w .printable);
         terms = λ h field. d .terms n h field ∙ ap (_++ nonzero-term field (modulo p h .neg (residue p h x)) (row n (getD (l .monomials) j blank))) (w .terms h field)
             ∙ append-assoc (termsAs p h n (termsIn n first)) _ _
             ∙ ap (termsAs p h n (termsIn n first) ++_) (sym (ap₂ (placed field) monomials (coefficients h)
@@ -156,8 +164,7 @@ module _ (p n : ℕ) (c : Coordinates) (l : Irreducibles) (first : Generator) wh
 
       pub writing-stop : (m : Monomial) → FirstTerm p n m first → (g : Generator) (k : ℕ) → k ≤ 0 → Writing g k → WrittenLine p n m c l g
       writing-stop m f g k z w = record {
-        held = w .held;
-        coefficients = w .coefficients;
+        printable = w .printable;
         line = λ h field once. generator-of p h n (termsIn n g) _ _ _ (w .terms h field ∙ ap₂ (λ ts j. ts ++ placed field (drop j (listed n l)) (drop j (vector p h c))) (f .terms h) last)
             ∙ ap (λ f. (row n m, f)) (placed-ordered field (rows n) (listed n l) (vector p h c) (omega (arith, listed-length, fits, whole, length-vector p h c)) once);
       }

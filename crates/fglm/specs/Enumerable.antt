@@ -27,7 +27,7 @@ use Rattle.reduction.specs.declared.irreducible.Irreducibles.{Irreducibles}
 use Rattle.multiplication.specs.Rows.{cellOf, AllBelow}
 use Rattle.multiplication.specs.Listed.{listed}
 use Rattle.multiplication.specs.declared.coordinates.Tables.{Tables}
-use Rattle.fglm.specs.Found.{linesOf, standardOf, HeldLex}
+use Rattle.fglm.specs.Found.{linesOf, standardOf, Printable}
 use Rattle.fglm.specs.declared.lex_basis.LexBasis.{LexBasis}
 
 -- The lines G are a Groebner basis in grevlex, no term of one a multiple of another's leading monomial; l lists its irreducible monomials.
@@ -51,7 +51,7 @@ pub record Convertible (t : Reciprocals) (n : ℕ) (s : List ℕ) (l : Irreducib
 
 -- What the enumeration gives, whatever such lines there are: the outcome of the theory, in the arrays of r.
 pub record Enumerated (t : Reciprocals) (n : ℕ) (s : List ℕ) (l : Irreducibles) (tables : Tables) (r : LexBasis) : Type 0 where
-  pub held : HeldLex (t .p) n r
+  pub printable : Printable (t .p) n r
   pub outcome : (prime : Prime (t .p)) (G : List (Line (ZMod (t .p)) (Row n))) → Enumerable (t .p) prime n l tables G
       → Outcome (modulo (t .p) (prime .above-one)) n (Grevlex n) (Lex n s) G (l .count) (linesOf (t .p) (prime .above-one) n r) (standardOf n r)
 

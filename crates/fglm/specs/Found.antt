@@ -1,8 +1,8 @@
 -- The lines and the standard monomials that a lex basis of the code holds.
 --   linesOf p h n b       its lines, as lines of polynomials
 --   standardOf n b        its standard monomials
---   HeldLex p n b         its arrays have what it says, with coefficients below p
---   Printable p n b       what its printing asks besides
+--   PrintableLine p n g   the line g is within its arrays, and monic modulo p
+--   Printable p n b       its lines are so, and its arrays have what it says
 use Prim.Native.Nat.{ℕ, _≤_, _<_}
 use mathlib.Core.List.{List, map}
 use lib.ListN.{take}
@@ -15,8 +15,8 @@ use Rattle.tabtext.specs.Sizes.{most-lines, most-standard}
 use Rattle.tabtext.specs.Text.{Each}
 use Rattle.tabtext.specs.Printed.{termsIn}
 use Rattle.tabtext.specs.declared.print.Generator.{Generator}
+use Rattle.basis.specs.Checks.{Monic}
 use Rattle.basis.specs.Answers.{Held, HeldLine}
-use Rattle.basis.proofs.GoodLines.{Monic}
 use Rattle.reduction.specs.Generators.{generators}
 use Rattle.fglm.specs.declared.lex_basis.LexBasis.{LexBasis}
 
@@ -30,22 +30,15 @@ unfoldable pub standardOf : (n : ℕ) → LexBasis → List (Row n)
 unfolding row
 standardOf n b = map (row n) (take (b .count) (b .standard))
 
--- The coefficients are 1 to p - 1.
-abbrev pub Coefficients : ℕ → Generator → Type 0
-Coefficients p g = Each (λ (c : Residue). (0 < c .0) × (c .0 < p)) (take (g .terms) (g .coefficients))
+-- A line within its arrays: the coefficients are 1 to p - 1, the first of them 1, and the exponents from place n on are 0.
+pub record PrintableLine (p n : ℕ) (g : Generator) : Type 0 where
+  pub held : HeldLine n g
+  pub coefficients : Each (λ (c : Residue). (0 < c .0) × (c .0 < p)) (take (g .terms) (g .coefficients))
+  pub monic : Monic (termsIn n g)
 
--- The arrays have what the numbers say.
-pub record HeldLex (p n : ℕ) (b : LexBasis) : Type 0 where
-  pub lines : b .lines ≤ most-lines
-  pub each : Each (HeldLine n) (take (b .lines) (b .generators))
-  pub coefficients : Each (Coefficients p) (take (b .lines) (b .generators))
-  pub count : b .count ≤ most-standard
-
--- What the printing of a lex basis asks besides: monic lines, and 0 for the exponents of the standard monomials from place n on.
+-- The arrays have what the numbers say: such lines, and standard monomials whose exponents from place n on are 0.
 pub record Printable (p n : ℕ) (b : LexBasis) : Type 0 where
   pub lines : b .lines ≤ most-lines
-  pub each : Each (HeldLine n) (take (b .lines) (b .generators))
-  pub coefficients : Each (Coefficients p) (take (b .lines) (b .generators))
-  pub monic : Each (λ g. Monic (termsIn n g)) (take (b .lines) (b .generators))
+  pub each : Each (PrintableLine p n) (take (b .lines) (b .generators))
   pub count : b .count ≤ most-standard
   pub standard : Each (Held n) (take (b .count) (b .standard))

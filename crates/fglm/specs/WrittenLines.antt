@@ -19,13 +19,13 @@ use Rattle.tabtext.specs.Text.{Term}
 use Rattle.tabtext.specs.Printed.{termsIn}
 use Rattle.tabtext.specs.declared.print.Generator.{Generator}
 use Rattle.basis.specs.Checks.{asRow}
-use Rattle.basis.specs.Answers.{Held, HeldLine}
+use Rattle.basis.specs.Answers.{Held}
 use Rattle.reduction.specs.Generators.{residue, generator}
 use Rattle.reduction.specs.declared.irreducible.Irreducibles.{Irreducibles}
 use Rattle.multiplication.specs.Listed.{listed}
 use Rattle.multiplication.specs.declared.coordinates.Coordinates.{Coordinates}
 use Rattle.fglm.specs.Vectors.{vector}
-use Rattle.fglm.specs.Found.{Coefficients}
+use Rattle.fglm.specs.Found.{PrintableLine}
 
 -- Terms of the code as terms of a polynomial.
 abbrev pub termsAs : (p : ℕ) → 1 < p → (n : ℕ) → List Term → Poly (ZMod p) (Row n)
@@ -38,13 +38,11 @@ combined p h n l c = terms (listed n l) (vector p h c)
 -- r is the line g less c·m.
 pub record LessTerm (p : ℕ) (g : Generator) (c : ℕ) (m : Monomial) (r : Generator) : Type 0 where
   pub count : r .terms ≤ suc (g .terms)
-  pub held : (n : ℕ) → Held n m → HeldLine n g → HeldLine n r
-  pub coefficients : Coefficients p g → Coefficients p r
+  pub printable : (n : ℕ) → Held n m → PrintableLine p n g → PrintableLine p n r
   pub terms : (n : ℕ) (h : 1 < p) (field : Field (modulo p h)) → termsAs p h n (termsIn n r) ≡ termsAs p h n (termsIn n g) ++ nonzero-term field (modulo p h .neg (residue p h c)) (row n m)
 
 -- r is the line m - Σ c_k·l_k, its tail in the order of the monomials l.
 pub record WrittenLine (p n : ℕ) (m : Monomial) (c : Coordinates) (l : Irreducibles) (r : Generator) : Type 0 where
-  pub held : HeldLine n r
-  pub coefficients : Coefficients p r
+  pub printable : PrintableLine p n r
   pub line : (h : 1 < p) (field : Field (modulo p h)) → Once (listed n l)
       → generator p h n (termsIn n r) ≡ ordered-line field (rows n) (listed n l) (row n m, negate (modulo p h) (combined p h n l c))

@@ -74,19 +74,17 @@ pub fn enumerate(
         let a = rows.add(w, reciprocals);
         let found = a.found;
         rows = a.rows;
-        match found {
-            Found::Pivot(_) => {
-                let k = standard.count;
-                images.rows[k] = w;
-                standard = pushed(standard, v);
-            }
-            Found::Dependent => {
-                let g = line_of(v, a.combination, standard, reciprocals.p, n);
-                let k = leads.count;
-                generators[k] = g;
-                leads = leads.push(v);
-            }
-        }
+        let Found::Pivot(_) = found else {
+            let g = line_of(v, a.combination, standard, reciprocals.p, n);
+            let k = leads.count;
+            generators[k] = g;
+            leads = leads.push(v);
+            m = next(leads, v, ranking, n);
+            continue;
+        };
+        let k = standard.count;
+        images.rows[k] = w;
+        standard = pushed(standard, v);
         m = next(leads, v, ranking, n);
     }
     let monomials = standard.monomials;

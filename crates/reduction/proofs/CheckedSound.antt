@@ -18,11 +18,11 @@ use Rattle.monomial.specs.declared.Monomial.{Monomial}
 use Rattle.tabtext.specs.Text.{Bytes, Each, Term}
 use Rattle.tabtext.specs.Printed.{rowOf as numbersOf, termsOf, termsIn}
 use Rattle.tabtext.specs.declared.print.Generator.{Generator}
-use Rattle.basis.specs.Checks.{passed, asRow, Checked}
+use Rattle.basis.specs.Checks.{passed, asRow, Monic, Checked}
 use Rattle.basis.specs.Answers.{basisOf}
 use Rattle.basis.specs.declared.Basis.{Basis}
 use Rattle.basis.proofs.EachPlace.{each-take}
-use Rattle.basis.proofs.GoodLines.{GoodTerm, Monic, Falling, GoodLine}
+use Rattle.basis.proofs.GoodLines.{GoodTerm, Falling, GoodLine}
 use Rattle.basis.proofs.Passes.{passes-iff}
 use Rattle.reduction.specs.Sound.{coefficientAt, monomialAt, generatorAt, SoundLine, Sound}
 use Rattle.reduction.proofs.ArrayRows.{row-of-terms}

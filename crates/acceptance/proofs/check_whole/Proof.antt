@@ -8,17 +8,17 @@ use Rattle.acceptance.proofs.check_whole.Statement.{statement}
 use Rattle.acceptance.proofs.check_whole.Tie as tie
 
 -- 12 speaks of no line.
-clear : (c : tie.After-zero-dimensional) → Undivided (c .before .before .before .before .before .args .b)
+clear : (c : tie.After-zero-dimensional) → Undivided (c .before .before .before .before .args .b)
 clear c =
     let d = c .before .before in
     let none : d .first-divided .result ≡ 0 = omega arith in
-    undivided (d .before .before .before .args .b) _ (d .first-divided .ensures) none
+    undivided (d .before .before .args .b) _ (d .first-divided .ensures) none
 
 of-requires : tie.Need-of-requires
-of-requires c κs = c .before .pre .0
+of-requires c κs = c .pre
 
 first-divided-requires : tie.Need-first-divided-requires
-first-divided-requires c κs = (c .before .before .pre .0, c .of .ensures)
+first-divided-requires c κs = (c .before .pre, c .of .ensures)
 
 refused-requires : tie.Need-refused-requires
 refused-requires c κs = search needs
@@ -32,7 +32,7 @@ returns c =
 zero-dimensional-requires : tie.Need-zero-dimensional-requires
 zero-dimensional-requires c κs =
     let l = c .before .before in
-    let (sound, room) = l .before .before .pre in
+    let sound = l .before .pre in
     (omega (arith, sound .few, l .of .ensures .0), sound .variables .1)
 
 refused-requires-2 : tie.Need-refused-requires-2
@@ -46,16 +46,12 @@ returns-2 c =
 
 check-irreducibles-requires : tie.Need-check-irreducibles-requires
 check-irreducibles-requires c κs =
-    let z = c .before .before in
+    let z = c .before in
     let l = z .before .before .before in
-    let (sound, room) = l .before .before .pre in
-    (sound, l .of .ensures, leads-pass _ _ _ (l .of .ensures) _ (z .zero-dimensional .ensures) (clear z) (sym (Bool·not-not _) ∙ ap not (c .before .if2 .left)), room)
-
-same-length : tie.Need-same-length
-same-length c = search needs
+    (l .before .pre, l .of .ensures, leads-pass _ _ _ (l .of .ensures) _ (z .zero-dimensional .ensures) (clear z) (sym (Bool·not-not _) ∙ ap not (c .if2 .left)))
 
 returns-3 : tie.Need-returns-3
-returns-3 c = c .before .before .check-irreducibles .ensures
+returns-3 c = c .check-irreducibles .ensures
 
 pub check-whole-spec : {M : Type 1} → statement M
 check-whole-spec =
@@ -69,5 +65,4 @@ check-whole-spec =
     refused-requires-2
     returns-2
     check-irreducibles-requires
-    same-length
     returns-3)

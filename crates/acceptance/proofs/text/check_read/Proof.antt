@@ -6,14 +6,11 @@ use Rattle.acceptance.proofs.text.check_read.Tie as tie
 
 check-whole-requires : tie.Need-check-whole-requires
 check-whole-requires c κs =
-    let s = c .before .before .before in
-    (held-sound (s .args .b) _ (s .good .0 .1 .1 .1 .1 .1 .0) _ (s .pre .0) (s .pre .1), s .pre .2)
-
-same-length : tie.Need-same-length
-same-length c = search needs
+    let s = c .before in
+    held-sound (s .args .b) _ (s .good .0 .1 .1 .1 .1 .1 .0) _ (s .pre .0) (s .pre .1)
 
 returns : tie.Need-returns
 returns c = search needs
 
 pub check-read-spec : {M : Type 1} → statement M
-check-read-spec = tie.close (tie.spec check-whole-requires same-length returns)
+check-read-spec = tie.close (tie.spec check-whole-requires returns)

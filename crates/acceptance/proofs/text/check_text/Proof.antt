@@ -11,10 +11,7 @@ enum-told : tie.Need-enum-told
 enum-told c = search needs
 
 check-read-requires : tie.Need-check-read-requires
-check-read-requires c κs =
-    let r = c .before .before .before .before in
-    let (checked, held) = read-passed _ _ _ (c .before .enum-told .given .1) (r .read-basis .ensures) in
-    (checked, held, r .before .before .before .pre)
+check-read-requires c κs = read-passed _ _ _ (c .enum-told .given .1) (c .before .before .before .read-basis .ensures)
 
 enum-known-verdict : tie.Need-enum-known-verdict
 enum-known-verdict c = search needs
@@ -22,18 +19,13 @@ enum-known-verdict c = search needs
 refused-requires : tie.Need-refused-requires
 refused-requires c κs = search needs
 
-same-length : tie.Need-same-length
-same-length c = search needs
-
 returns : tie.Need-returns
 returns c =
-    let d = c .before .before in
-    let r = d .before .before .before .before .before in
-    text-whole _ _ (read-passed _ _ _ (d .before .before .enum-told .given .1) (r .read-basis .ensures) .0)
-    (d .check-read .result .verdict) (d .check-read .result .irreducibles) (d .check-read .result .tables) (d .check-read .ensures)
+    text-whole _ _ (read-passed _ _ _ (c .before .enum-told .given .1) (c .before .before .before .before .read-basis .ensures) .0)
+    (c .check-read .result .verdict) (c .check-read .result .irreducibles) (c .check-read .result .tables) (c .check-read .ensures)
 
 returns-2 : tie.Need-returns-2
 returns-2 c = text-refused _ _ _ _ _ _ (c .before .before .verdict .given .1) (c .before .before .before .before .before .read-basis .ensures) (c .refused .ensures) _ _
 
 pub check-text-spec : {M : Type 1} → statement M
-check-text-spec = tie.close (tie.spec read-basis-requires enum-told check-read-requires enum-known-verdict refused-requires same-length returns returns-2)
+check-text-spec = tie.close (tie.spec read-basis-requires enum-told check-read-requires enum-known-verdict refused-requires returns returns-2)

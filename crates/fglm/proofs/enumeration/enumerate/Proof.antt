@@ -2,17 +2,22 @@
 use Prim.Native.Nat.{_+_, _*_, _-_}
 use mathlib.Core.Path.{_≡_, refl, subst}
 use mathlib.Core.Bool.{true}
-use mathlib.Core.Logic.{⊎-elim}
+use mathlib.Core.List.{List}
 use native.Mathlib.Omega.{arith}
 use borrow.Author.Needs.{needs}
-use lib.ListN.{length, take}
+use lib.ListN.{length, take, set}
 use Rattle.tabtext.specs.Sizes.{most-standard}
+use Rattle.tabtext.specs.declared.print.Generator.{Generator}
+use Rattle.reduction.specs.declared.irreducible.Irreducibles.{Irreducibles}
+use Rattle.reduction.specs.declared.leads.Leads.{Leads}
 use Rattle.reduction.proofs.ArrayRows.{rows-length}
 use Rattle.reduction.proofs.Elements.{length-mapped}
 use Rattle.multiplication.specs.Listed.{listed}
 use Rattle.fglm.specs.Enumerable.{Convertible}
+use Rattle.fglm.specs.declared.elimination.Rows.{Rows}
+use Rattle.fglm.specs.declared.image.Images.{Images}
 use Rattle.fglm.proofs.VectorEntries.{Whole}
-use Rattle.fglm.proofs.EnumerationLoop.{Enumerating, VisitedOnce, enumerating-start, enumerating-stop, standard-few, next-found, next-exponents, next-few, next-lines, visit-room, standard-room, after-standard, after-line, visited-same, onward}
+use Rattle.fglm.proofs.EnumerationLoop.{Enumerating, VisitedOnce, enumerating-start, enumerating-stop, standard-few, next-found, next-exponents, next-few, next-lines, visit-room, standard-room, after-standard, after-line, onward}
 use Rattle.fglm.proofs.enumeration.enumerate.Statement.{statement}
 use Rattle.fglm.proofs.enumeration.enumerate.Tie as tie
 
@@ -41,16 +46,22 @@ head c = let a = origin (c .before) .args in let x = c .before .loop in
 whole : (c : tie.After-image-of Inv-loop μ-loop) → Whole (c .image-of .result)
 whole c = search (c .image-of .ok, length-mapped, needs)
 
--- m is visited.
-visited : (c : tie.At-match-came Inv-loop μ-loop) → let d = c .before .before in let i = d .before .before .before in let a = origin (i .before) .args in let x = i .before .loop in
-    VisitedOnce (a .reciprocals) (a .n) (take (a .n) (a .ranking .variables)) (a .l) (a .t) (x .inv .0) (x .inv .1) (x .leads .count + x .standard .count) (d .add .result .rows) (c .match .images) (c .match .standard) (c .match .leads) (c .match .generators) (x .m .monomial)
-visited c = let d = c .before .before in let i = d .before .before .before in
-    let e = head i in
-    let image = d .before .image-of .ensures in
-    ⊎-elim
-    (λ w. visited-same _ _ _ _ _ _ _ (w .3) (w .4) (w .5) (w .6) (after-standard _ _ _ _ _ _ _ e (whole (d .before)) image (d .add .ensures) (w .1 .given .1) refl (w .2 .ensures)))
-    (λ w. visited-same _ _ _ _ _ _ _ (w .4) (w .5) (w .6) (w .7) (after-line _ _ _ _ _ _ _ e (whole (d .before)) image (d .add .ensures) (w .1 .given .1) (w .2 .ensures) (w .3 .ensures) refl))
-    (c .match .came)
+-- What holds after the visit.
+abbrev Visited : tie.In-loop Inv-loop μ-loop → Rows → Images → Irreducibles → Leads → List Generator → Type 0
+Visited i rs images standard ls gs = let a = origin (i .before) .args in let x = i .before .loop in
+    VisitedOnce (a .reciprocals) (a .n) (take (a .n) (a .ranking .variables)) (a .l) (a .t) (x .inv .0) (x .inv .1) (x .leads .count + x .standard .count) rs images standard ls gs (x .m .monomial)
+
+-- A line is written.
+line : (c : tie.After-push Inv-loop μ-loop) → let d = c .before .before .before .before .before in let x = d .before .before .before .before .loop in
+    Visited (d .before .before .before) (d .add .result .rows) (x .images) (x .standard) (c .push .result) (set (x .generators) (x .leads .count) (c .before .line-of .result))
+line c = let d = c .before .before .before .before .before in
+    after-line _ _ _ _ _ _ _ (head (d .before .before .before)) (whole (d .before)) (d .before .image-of .ensures) (d .add .ensures) (c .before .before .enum-told2 .given .1) (c .before .line-of .ensures) (c .push .ensures) refl
+
+-- There is one standard monomial more.
+standard : (c : tie.After-pushed Inv-loop μ-loop) → let d = c .before .before .before .before in let x = d .before .before .before .before .loop in
+    Visited (d .before .before .before) (d .add .result .rows) (record { rows = set (x .images .rows) (x .standard .count) (d .before .image-of .result) }) (c .pushed .result) (x .leads) (x .generators)
+standard c = let d = c .before .before .before .before in
+    after-standard _ _ _ _ _ _ _ (head (d .before .before .before)) (whole (d .before)) (d .before .image-of .ensures) (d .add .ensures) (c .before .enum-told .given .1) refl (c .pushed .ensures)
 
 none-requires : tie.Need-none-requires Inv-loop μ-loop
 none-requires c κs = search needs
@@ -95,15 +106,6 @@ add-requires c κs =
 enum-told : tie.Need-enum-told Inv-loop μ-loop
 enum-told c = search needs
 
-mul-w : tie.Need-mul-w Inv-loop μ-loop
-mul-w c = let i = c .before .before .before .before .before .before in omega (arith, standard-few _ _ _ _ _ _ _ (head i))
-
-element-set-from-w : tie.Need-element-set-from-w Inv-loop μ-loop
-element-set-from-w c = let d = c .before .before .before in let i = d .before .before .before in standard-room _ _ _ _ _ _ _ (head i) (whole (d .before)) (d .before .image-of .ensures) (d .add .ensures) (c .enum-told .given .1)
-
-pushed-requires : tie.Need-pushed-requires Inv-loop μ-loop
-pushed-requires c κs = let d = c .before .before .before in let i = d .before .before .before in standard-room _ _ _ _ _ _ _ (head i) (whole (d .before)) (d .before .image-of .ensures) (d .add .ensures) (c .enum-told .given .1)
-
 enum-told-2 : tie.Need-enum-told-2 Inv-loop μ-loop
 enum-told-2 c = search needs
 
@@ -123,17 +125,40 @@ push-requires c κs = let i = c .before .before .before .before .before .before 
 
 next-requires : tie.Need-next-requires Inv-loop μ-loop
 next-requires c κs =
-    let i = c .before .before .before .before .before in
+    let i = c .before .before .before .before .before .before .before .before in
     let g = i .before .loop .inv .0 in
-    (visited c .kept .lines, g .variables, g .ranking, head i .held, next-exponents _ _ _ _ _ _ _ (head i))
+    (line c .kept .lines, g .variables, g .ranking, head i .held, next-exponents _ _ _ _ _ _ _ (head i))
 
 loop-less : tie.Need-loop-less Inv-loop μ-loop
-loop-less c = let i = c .before .before .before .before .before .before in
-    omega (arith, visited (c .before) .count, next-few _ _ _ _ _ _ _ (head i))
+loop-less c = let i = c .before .before .before .before .before .before .before .before .before in
+    omega (arith, line (c .before) .count, next-few _ _ _ _ _ _ _ (head i))
 
 loop-again : tie.Need-loop-again Inv-loop μ-loop
-loop-again c = let x = c .before .before .before .before .before .before .before .loop in
-    (x .inv .0, x .inv .1, onward _ _ _ _ _ _ _ (visited (c .before)) _ _ (c .next .ensures .0) (c .next .ensures .1))
+loop-again c = let x = c .before .before .before .before .before .before .before .before .before .before .loop in
+    (x .inv .0, x .inv .1, onward _ _ _ _ _ _ _ (line (c .before)) _ _ (c .next .ensures .0) (c .next .ensures .1))
+
+mul-w : tie.Need-mul-w Inv-loop μ-loop
+mul-w c = let i = c .before .before .before .before .before .before in omega (arith, standard-few _ _ _ _ _ _ _ (head i))
+
+element-set-from-w : tie.Need-element-set-from-w Inv-loop μ-loop
+element-set-from-w c = let d = c .before .before .before in let i = d .before .before .before in standard-room _ _ _ _ _ _ _ (head i) (whole (d .before)) (d .before .image-of .ensures) (d .add .ensures) (c .enum-told .given .1)
+
+pushed-requires : tie.Need-pushed-requires Inv-loop μ-loop
+pushed-requires c κs = let d = c .before .before .before in let i = d .before .before .before in standard-room _ _ _ _ _ _ _ (head i) (whole (d .before)) (d .before .image-of .ensures) (d .add .ensures) (c .enum-told .given .1)
+
+next-requires-2 : tie.Need-next-requires-2 Inv-loop μ-loop
+next-requires-2 c κs =
+    let i = c .before .before .before .before .before .before .before in
+    let g = i .before .loop .inv .0 in
+    (head i .kept .lines, g .variables, g .ranking, head i .held, next-exponents _ _ _ _ _ _ _ (head i))
+
+loop-less-2 : tie.Need-loop-less-2 Inv-loop μ-loop
+loop-less-2 c = let i = c .before .before .before .before .before .before .before .before in
+    omega (arith, standard (c .before) .count, next-few _ _ _ _ _ _ _ (head i))
+
+loop-again-2 : tie.Need-loop-again-2 Inv-loop μ-loop
+loop-again-2 c = let x = c .before .before .before .before .before .before .before .before .before .loop in
+    (x .inv .0, x .inv .1, onward _ _ _ _ _ _ _ (standard (c .before)) _ _ (c .next2 .ensures .0) (c .next2 .ensures .1))
 
 returns : tie.Need-returns Inv-loop μ-loop
 returns c = let a = c .before .before in enumerating-stop _ _ _ _ _ _ _ (c .before .loop-test .left) (a .loop .inv .2)
@@ -154,9 +179,6 @@ enumerate-spec =
     image-of-requires
     add-requires
     enum-told
-    mul-w
-    element-set-from-w
-    pushed-requires
     enum-told-2
     line-of-requires
     mul-generators
@@ -165,4 +187,10 @@ enumerate-spec =
     next-requires
     loop-less
     loop-again
+    mul-w
+    element-set-from-w
+    pushed-requires
+    next-requires-2
+    loop-less-2
+    loop-again-2
     returns)
