@@ -2,7 +2,8 @@
 --   divided-smallest       the smallest line of which check 12 speaks, or that it speaks of none
 --   s-polynomial           two lines have an S-polynomial
 --   s-polynomial-unique    it is one up to the order of terms
---   failing-smallest       the smallest line of which check 15 speaks, or that it speaks of none
+--   Fails, fails?          the S-polynomial of two lines has a remainder that is not zero; whether it has
+--   failing-smallest       the smallest line of which check 15 speaks, or that it speaks of none, by any decision of pairs
 use mathlib.Core.Path.{_≡_, sym, _∙_, ap₂, subst}
 use mathlib.Core.List.{List, [], _∷_, cons-ne-nil}
 use mathlib.Core.Logic.{_⊎_}
@@ -32,7 +33,8 @@ module _ {F M : Type 0} (R : Arithmetic F) {𝓜 : Monomials M} (monoid : Monomi
   abbrev ByAnother : ℕ → Line F M → Type 0
   ByAnother k g = (j : ℕ) × (h : Line F M) × On G j h × ((¬ (j ≡ k)) × ((t : F × M) × (t ∈ polynomial R g) × Divides 𝓜 (h .0) (t .1)))
 
-  divided? : (k : ℕ) → Dec (Divided R 𝓜 G k)
+  unfoldable divided? : (k : ℕ) → Dec (Divided R 𝓜 G k)
+  unfolding as? on? both? not? among? ℕ-discrete polynomial
   divided? k = as? to back (on? G (λ i g. both? (ℕ-discrete i k) (on? G (λ j h. both? (not? (ℕ-discrete j k)) (among? (λ t. monoid .divides? (h .0) (t .1)) (polynomial R g))))))
     where
       to : (i : ℕ) × (g : Line F M) × On G i g × ((i ≡ k) × ByAnother k g) → Divided R 𝓜 G k
@@ -41,7 +43,8 @@ module _ {F M : Type 0} (R : Arithmetic F) {𝓜 : Monomials M} (monoid : Monomi
       back : Divided R 𝓜 G k → (i : ℕ) × (g : Line F M) × On G i g × ((i ≡ k) × ByAnother k g)
       back w = (k, w .g, w .line, (λ _. k, (w .j, w .h, w .other, (w .different, (w .term, w .of-line, w .divides)))))
 
-  pub divided-smallest : SmallestOrNone (Divided R 𝓜 G)
+  unfoldable pub divided-smallest : SmallestOrNone (Divided R 𝓜 G)
+  unfolding divided? smallest-or-none
   divided-smallest = smallest-or-none divided? (2 + length G) (λ k w. on-below G k (w .g) (w .line))
 
 module _ {F M : Type 0} {R : Arithmetic F} {𝓜 : Monomials M} {lt : M → M → Type 0} (𝓟 : PolynomialRing R 𝓜) (ord : MonomialOrder 𝓜 lt) where
@@ -71,10 +74,10 @@ module _ {F M : Type 0} {R : Arithmetic F} {𝓜 : Monomials M} {lt : M → M �
 
   module _ (G : List (Line F M)) (low : Low lt G) where
     -- The S-polynomial of f and g has a remainder that is not zero.
-    abbrev Fails : Line F M → Line F M → Type 0
+    abbrev pub Fails : Line F M → Line F M → Type 0
     Fails f g = (s : Poly F M) × SPolynomial R 𝓜 f g s × (r : Poly F M) × Remainder R 𝓜 lt G s r × (¬ (r ≡ []))
 
-    fails? : (f g : Line F M) → Dec (Fails f g)
+    pub fails? : (f g : Line F M) → Dec (Fails f g)
     fails? f g = let (s, w) = s-polynomial f g in let (r, q) = remainder 𝓟 ord G low s (w .proper) in go s w r q
       where
         go : (s : Poly F M) → SPolynomial R 𝓜 f g s → (r : Poly F M) → Remainder R 𝓜 lt G s r → Dec (Fails f g)
@@ -85,15 +88,19 @@ module _ {F M : Type 0} {R : Arithmetic F} {𝓜 : Monomials M} {lt : M → M �
     abbrev WithEarlier : ℕ → Line F M → Type 0
     WithEarlier k g = (j : ℕ) × (f : Line F M) × On G j f × ((j < k) × Fails f g)
 
-    failing? : (k : ℕ) → Dec (Failing R 𝓜 G lt k)
-    failing? k = as? to back (on? G (λ i g. both? (ℕ-discrete i k) (on? G (λ j f. both? (decLt j k) (fails? f g)))))
-      where
-        to : (i : ℕ) × (g : Line F M) × On G i g × ((i ≡ k) × WithEarlier k g) → Failing R 𝓜 G lt k
-        to (i, g, a, (e, (j, f, b, (l, (s, w, r, q, n))))) =
-            record { f = f; g = g; j = j; earlier = b; later = subst (λ (x : ℕ). On G x g) e a; before = l; s = s; pair = w; r = r; remainder = q; nonzero = n }
+    -- By a decision of pairs.
+    module _ (pair? : (f g : Line F M) → Dec (Fails f g)) where
+      unfoldable failing? : (k : ℕ) → Dec (Failing R 𝓜 G lt k)
+      unfolding as? on? both? ℕ-discrete decLt
+      failing? k = as? to back (on? G (λ i g. both? (ℕ-discrete i k) (on? G (λ j f. both? (decLt j k) (pair? f g)))))
+        where
+          to : (i : ℕ) × (g : Line F M) × On G i g × ((i ≡ k) × WithEarlier k g) → Failing R 𝓜 G lt k
+          to (i, g, a, (e, (j, f, b, (l, (s, w, r, q, n))))) =
+              record { f = f; g = g; j = j; earlier = b; later = subst (λ (x : ℕ). On G x g) e a; before = l; s = s; pair = w; r = r; remainder = q; nonzero = n }
 
-        back : Failing R 𝓜 G lt k → (i : ℕ) × (g : Line F M) × On G i g × ((i ≡ k) × WithEarlier k g)
-        back w = (k, w .g, w .later, (λ _. k, (w .j, w .f, w .earlier, (w .before, (w .s, w .pair, w .r, w .remainder, w .nonzero)))))
+          back : Failing R 𝓜 G lt k → (i : ℕ) × (g : Line F M) × On G i g × ((i ≡ k) × WithEarlier k g)
+          back w = (k, w .g, w .later, (λ _. k, (w .j, w .f, w .earlier, (w .before, (w .s, w .pair, w .r, w .remainder, w .nonzero)))))
 
-    pub failing-smallest : SmallestOrNone (Failing R 𝓜 G lt)
-    failing-smallest = smallest-or-none failing? (2 + length G) (λ k w. on-below G k (w .g) (w .later))
+      unfoldable pub failing-smallest : SmallestOrNone (Failing R 𝓜 G lt)
+      unfolding failing? smallest-or-none
+      failing-smallest = smallest-or-none failing? (2 + length G) (λ k w. on-below G k (w .g) (w .later))

@@ -2,7 +2,7 @@
 --   rising-list, rising-rows     rising lists, in the words of the definitions and of the theory
 --   conversion-unique            there is at most one
 --   outcome-converts             the outcome of the enumeration is one
---   conversion-exists            there is one
+--   conversion-exists            there is one, and it is computed
 --   conversion-standard          its standard monomials are those that its lines do not reduce, as many as are irreducible in grevlex
 --   conversion-systems           the two bases are equivalent reduction systems
 use mathlib.Core.Path.{_≡_, subst₂}
@@ -21,12 +21,12 @@ use Rattle.groebner.specs.Bases.{Groebner}
 use Rattle.groebner.specs.Standard.{Lists}
 use Rattle.groebner.specs.Systems.{Equivalent}
 use Rattle.groebner.proofs.RisingLists.{RisingList, rising-once, rising-unique}
-use Rattle.groebner.proofs.Next.{next, next-lex, variables-ranking}
-use Rattle.groebner.proofs.EnumerationOutcome.{Outcome, outcome-exists}
+use Rattle.groebner.proofs.EnumerationOutcome.{Outcome}
 use Rattle.groebner.proofs.Equivalence.{equivalent}
 use Rattle.groebner.proofs.Instance.{ground, Converted, converted, one-basis}
 use Rattle.convert.specs.Outcome.{RisingRows, Converts}
 use Rattle.convert.proofs.EachElement.{each-at, each-of}
+use Rattle.convert.proofs.LexEnumeration.{enumerated}
 
 module _ {M : Type 0} (lt : M → M → Type 0) where
   pub rising-list : (B : List M) → RisingRows lt B → RisingList lt B
@@ -76,10 +76,12 @@ module _ (p : ℕ) (prime : Prime p) (n : ℕ) (G : List (Line (ZMod p) (Row n))
 
     module _ (B₀ : List (Row n)) (irreducible : Lists (λ m. ¬ Reducible (rows n) G m) B₀) where
       -- The outcome of the enumeration.
-      found : (H : List (Line (ZMod p) (Row n))) × (B : List (Row n)) × Outcome R n (Grevlex n) lt G (length B₀) H B
-      found = outcome-exists n (ground p prime n) (grevlex-order n) order (next n (variables n)) (next-lex n (variables n) (variables-ranking n)) G (λ g q. lines .falling g q .0) gb B₀ irreducible
+      unfoldable found : (H : List (Line (ZMod p) (Row n))) × (B : List (Row n)) × Outcome R n (Grevlex n) lt G (length B₀) H B
+      unfolding enumerated
+      found = enumerated p prime n G lines B₀ gb irreducible
 
-      pub conversion-exists : (H : List (Line (ZMod p) (Row n))) × (B : List (Row n)) × Converts p h n G H B
+      unfoldable pub conversion-exists : (H : List (Line (ZMod p) (Row n))) × (B : List (Row n)) × Converts p h n G H B
+      unfolding found
       conversion-exists = let (H, B, o) = found in (H, B, outcome-converts (length B₀) H B o)
 
       pub conversion-standard : (H : List (Line (ZMod p) (Row n))) (B : List (Row n)) → Converts p h n G H B → Lists (λ m. ¬ Reducible (rows n) H m) B × (length B ≡ length B₀)

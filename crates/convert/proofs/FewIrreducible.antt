@@ -31,10 +31,11 @@ module _ {F : Type 0} (n : ℕ) (G : List (Line F (Row n))) where
   abbrev pub Few : Type 0
   Few = (B : List (Row n)) × (length B ≤ most-standard) × Lists (λ m. ¬ Reducible (rows n) G m) B
 
-  order : MonomialOrder (rows n) (Lex n (variables n))
+  abbrev order : MonomialOrder (rows n) (Lex n (variables n))
   order = lex-order n (variables n) (variables-rank n)
 
-  pub large-or-few : Large n G ⊎ Few
+  unfoldable pub large-or-few : Large n G ⊎ Few
+  unfolding irreducibles next reducible variables
   large-or-few = at (irreducibles n (next n (variables n)) (reducible n G) most-standard)
       (irreducibles-of-lines n order (next n (variables n)) (next-lex n (variables n) (variables-ranking n)) G most-standard)
     where

@@ -5,7 +5,7 @@
 --   smallest-or-none    the smallest number that has a decided property of bounded numbers, or that none has it
 use mathlib.Core.Path.{refl, sym, subst}
 use mathlib.Core.List.{List, [], _∷_}
-use mathlib.Core.Logic.{_⊎_, inl, inr, ⊎-elim, by-cases}
+use mathlib.Core.Logic.{_⊎_, inl, inr, by-cases}
 use Prim.Native.Nat.{ℕ, zero, suc, _+_, _<_}
 use native.Mathlib.Decide.{ℕ-discrete}
 use native.Mathlib.Omega.{arith}
@@ -14,7 +14,7 @@ use Rattle.groebner.proofs.Deciding.{as?}
 use Rattle.reduction.specs.Whole.{At, On}
 
 module _ {A : Type 0} where
-  pub at? : (l : List A) {P : ℕ → A → Type 0} → ((i : ℕ) (x : A) → Dec (P i x)) → Dec ((i : ℕ) × (x : A) × At l i x × P i x)
+  unfoldable pub at? : (l : List A) {P : ℕ → A → Type 0} → ((i : ℕ) (x : A) → Dec (P i x)) → Dec ((i : ℕ) × (x : A) × At l i x × P i x)
   at? [] P? = no (λ (i, x, a, p). a)
   at? (y ∷ l) {P} P? = go (P? 0 y) (at? l (λ i x. P? (suc i) x))
     where
@@ -27,7 +27,8 @@ module _ {A : Type 0} where
       go (no n) (yes (i, x, a, p)) = yes (suc i, x, a, p)
       go (no n) (no r) = no (λ (i, x, a, p). neither n r i x a p)
 
-  pub on? : (l : List A) {P : ℕ → A → Type 0} → ((k : ℕ) (x : A) → Dec (P k x)) → Dec ((k : ℕ) × (x : A) × On l k x × P k x)
+  unfoldable pub on? : (l : List A) {P : ℕ → A → Type 0} → ((k : ℕ) (x : A) → Dec (P k x)) → Dec ((k : ℕ) × (x : A) × On l k x × P k x)
+  unfolding at? as?
   on? l {P} P? = as? (λ (i, x, a, p). (suc (suc i), x, a, p)) (λ (k, x, o, p). back k x o p) (at? l (λ i x. P? (suc (suc i)) x))
     where
       back : (k : ℕ) (x : A) → On l k x → P k x → (i : ℕ) × (x : A) × At l i x × P (suc (suc i)) x
@@ -46,7 +47,7 @@ module _ {A : Type 0} where
   on-below l (suc (suc i)) x o = omega (arith, at-below l i x o)
 
 module _ {Of : ℕ → Type 0} (of? : (k : ℕ) → Dec (Of k)) where
-  search-below : (n : ℕ) → ((k : ℕ) × Of k × ((j : ℕ) → j < k → ¬ Of j)) ⊎ ((k : ℕ) → k < n → ¬ Of k)
+  unfoldable search-below : (n : ℕ) → ((k : ℕ) × Of k × ((j : ℕ) → j < k → ¬ Of j)) ⊎ ((k : ℕ) → k < n → ¬ Of k)
   search-below zero = inr (λ k l. absurd (omega arith))
   search-below (suc n) = go (search-below n) (of? n)
     where
@@ -55,5 +56,6 @@ module _ {Of : ℕ → Type 0} (of? : (k : ℕ) → Dec (Of k)) where
       go (inr none) (yes p) = inl (n, p, none)
       go (inr none) (no q) = inr (λ k l. by-cases (ℕ-discrete k n) (λ e. subst (λ (x : ℕ). ¬ Of x) (sym e) q) (λ e. none k (omega arith)))
 
-  pub smallest-or-none : (n : ℕ) → ((k : ℕ) → Of k → k < n) → ((k : ℕ) × Of k × ((j : ℕ) → j < k → ¬ Of j)) ⊎ ((k : ℕ) → ¬ Of k)
-  smallest-or-none n h = ⊎-elim inl (λ none. inr (λ k o. none k (h k o) o)) (search-below n)
+  unfoldable pub smallest-or-none : (n : ℕ) → ((k : ℕ) → Of k → k < n) → ((k : ℕ) × Of k × ((j : ℕ) → j < k → ¬ Of j)) ⊎ ((k : ℕ) → ¬ Of k)
+  unfolding search-below
+  smallest-or-none n h = elim (search-below n) [ inl w ↦ inl w | inr none ↦ inr (λ k o. none k (h k o) o) ]

@@ -4,19 +4,21 @@
 --   systemOf             the lines as a rewriting system
 --   line-in              line k is one of the lines
 --   line-lead-at         its leading monomial
+--   first-line           the earliest of the stored leading monomials that divides a monomial is that of the earliest line
 --   earliest-line        the earliest line that divides a monomial, as the code finds it
 --   irreducible-at       no line divides a monomial
-use mathlib.Core.Path.{_≡_, refl, sym, _∙_, subst}
+use mathlib.Core.Path.{_≡_, refl, sym, _∙_, ap, subst}
 use mathlib.Core.Bool.{true, false, false≢true}
 use mathlib.Core.List.{List, [], _∷_}
 use mathlib.Core.Logic.{inl, inr}
 use Prim.Native.Nat.{ℕ, zero, suc, _<_}
 use native.Mathlib.Omega.{arith}
-use lib.ListN.{length, getD}
+use lib.ListN.{length, getD, List·getD-map}
 use Rattle.residue.specs.Prime.{Prime}
 use Rattle.residue.specs.Field.{modulo}
 use Rattle.monomial.specs.Rows.{Row, one, divides}
 use Rattle.monomial.specs.Ordering.{Monomials, Divides, rows, Grevlex}
+use Rattle.monomial.specs.declared.Monomial.{Monomial}
 use Rattle.monomial.proofs.Products.{divides-iff}
 use Rattle.monomial.proofs.GrevlexOrder.{grevlex-order}
 use Rattle.groebner.specs.Polynomials.{_∈_}
@@ -27,6 +29,7 @@ use Rattle.groebner.proofs.NormalForms.{Rewriting}
 use Rattle.groebner.proofs.Instance.{ground}
 use Rattle.basis.specs.declared.Basis.{Basis}
 use Rattle.reduction.specs.Generators.{linesOf}
+use Rattle.reduction.specs.Leads.{rowsOf, LeadsOf}
 use Rattle.reduction.specs.Sound.{generatorAt, Sound}
 use Rattle.division.specs.Clearing.{leadAt, lineAt, FirstDivisor}
 use Rattle.reduction.proofs.Elements.{element-in, place-of}
@@ -53,6 +56,17 @@ module _ (b : Basis) (sound : Sound b) (h : 1 < b .p) where
   pub line-lead-at : (k : ℕ) → k < b .lines → lineAt b h k .0 ≡ leadAt b k
   line-lead-at k l = line-lead (b .p) h (b .n) (generatorAt b k) (sound .lines k l)
 
+  module _ (count : ℕ) (ms : List Monomial) (leads : LeadsOf b count ms) where
+    lead-stored : (j : ℕ) → j < b .lines → getD (rowsOf (b .n) count ms) j (one (b .n)) ≡ leadAt b j
+    lead-stored j l = ap (λ L. getD L j (one (b .n))) (leads .1 h) ∙ List·getD-map (λ g. g .0) (linesOf b h) j (one (b .n), []) ∙ ap (λ g. g .0) (line-at b h j l) ∙ line-lead-at j l
+
+    pub first-line : (m : Row (b .n)) (k : ℕ) → FirstDivisor (b .n) count (λ j. getD (rowsOf (b .n) count ms) j (one (b .n))) m k → FirstDivisor (b .n) (b .lines) (leadAt b) m k
+    first-line m k f = record {
+      within = omega (arith, leads .0, f .within);
+      before = λ j l. ap (λ x. divides (b .n) x m) (sym (lead-stored j (omega (arith, leads .0, f .within)))) ∙ f .before j l;
+      here = λ l. ap (λ x. divides (b .n) x m) (sym (lead-stored k l)) ∙ f .here (omega (arith, leads .0));
+    }
+
   module _ (filled : Filled b) where
     pub lines-low : Low (Grevlex (b .n)) (linesOf b h)
     lines-low g q = sound-lines b sound filled h .falling g q .0
@@ -73,10 +87,10 @@ module _ (b : Basis) (sound : Sound b) (h : 1 < b .p) where
       lead-not : (k : ℕ) → k < b .lines → divides (b .n) (leadAt b k) m ≡ false → ¬ Divides (rows (b .n)) (getD (linesOf b h) k (one (b .n), []) .0) m
       lead-not k l e d = false≢true (sym e ∙ divides-iff (b .n) (leadAt b k) m .1 (rw (line-at b h k l, line-lead-at k l) at d))
 
-      pub earliest-line : (k : ℕ) → k < b .lines → FirstDivisor b m k → Earliest (rows (b .n)) m (lineAt b h k) (linesOf b h)
+      pub earliest-line : (k : ℕ) → k < b .lines → FirstDivisor (b .n) (b .lines) (leadAt b) m k → Earliest (rows (b .n)) m (lineAt b h k) (linesOf b h)
       earliest-line k l f = rw (← line-at b h k l) (earliest-at (rows (b .n)) m (one (b .n), []) (linesOf b h) k (within k l) (λ j i. lead-not j (omega arith) (f .before j i)) (lead-divides k l (f .here l)))
 
-      pub irreducible-at : FirstDivisor b m (b .lines) → ¬ Reducible (rows (b .n)) (linesOf b h) m
+      pub irreducible-at : FirstDivisor (b .n) (b .lines) (leadAt b) m (b .lines) → ¬ Reducible (rows (b .n)) (linesOf b h) m
       irreducible-at f (g, q, d) =
           let (k, l, e) = place-of (one (b .n), []) (linesOf b h) q in
           let i : k < b .lines = omega (arith, lines-length b h (filled .lines)) in

@@ -1,5 +1,5 @@
--- A multiple of a line of a basis, whose leading monomial is raised to m.
---   leadRead b k         the leading monomial of line k, as the code reads it
+-- A multiple of a line, whose leading monomial is raised to m.
+--   leadRead g           the leading monomial of the line that a generator makes, as the code reads it
 --   lead-read            it is the leading monomial
 --   quotient-fits        what its quotient asks, where it divides m
 --   quotient-row         the quotient, as the code has it
@@ -21,38 +21,38 @@ use Rattle.monomial.proofs.Places.{row-monomial}
 use Rattle.groebner.specs.Polynomials.{scale, shift, coef}
 use Rattle.groebner.specs.Lines.{polynomial}
 use Rattle.tabtext.specs.Printed.{termsIn}
-use Rattle.basis.specs.declared.Basis.{Basis}
+use Rattle.tabtext.specs.declared.print.Generator.{Generator}
 use Rattle.reduction.specs.Generators.{residue, generator}
-use Rattle.reduction.specs.Sound.{generatorAt}
+use Rattle.reduction.specs.Sound.{monomialAt}
 use Rattle.division.specs.CoefficientArray.{Adds}
-use Rattle.division.specs.Clearing.{leadAt, lineMultiple}
+use Rattle.division.specs.Clearing.{multipleOf}
 use Rattle.reduction.proofs.ArrayRows.{blank, row-at}
 use Rattle.division.proofs.AddedTerms.{adds-same}
 
-module _ (b : Basis) (k : ℕ) where
-  unfoldable pub leadRead : Monomial
-  leadRead = getD (generatorAt b k .monomials) 0 blank
+-- The leading monomial, as the code reads it.
+unfoldable pub leadRead : Generator → Monomial
+leadRead g = getD (g .monomials) 0 blank
 
-  pub lead-read : row (b .n) leadRead ≡ leadAt b k
+module _ (n : ℕ) (g : Generator) where
+  pub lead-read : row n (leadRead g) ≡ row n (monomialAt g 0)
   unfolding leadRead
-  lead-read = sym (row-at (b .n) (generatorAt b k) 0)
+  lead-read = sym (row-at n g 0)
 
-  module _ (m : Row (b .n)) (d : divides (b .n) (leadAt b k) m ≡ true) where
-    pub quotient-fits : (i : ℕ) → i < b .n → exponent (b .n) (row (b .n) leadRead) i ≤ exponent (b .n) m i
-    quotient-fits = rw lead-read (divides-at (b .n) (leadAt b k) m .0 d)
+  module _ (m : Row n) (d : divides n (row n (monomialAt g 0)) m ≡ true) where
+    pub quotient-fits : (i : ℕ) → i < n → exponent n (row n (leadRead g)) i ≤ exponent n m i
+    quotient-fits = rw lead-read (divides-at n (row n (monomialAt g 0)) m .0 d)
 
-    pub quotient-row : (u : Monomial) → u ≡ monomial (b .n) (quotient (b .n) m (row (b .n) leadRead)) → row (b .n) u ≡ quotient (b .n) m (leadAt b k)
-    quotient-row u e = ap (row (b .n)) e ∙ row-monomial (b .n) _ ∙ ap (quotient (b .n) m) lead-read
+    pub quotient-row : (u : Monomial) → u ≡ monomial n (quotient n m (row n (leadRead g))) → row n u ≡ quotient n m (row n (monomialAt g 0))
+    quotient-row u e = ap (row n) e ∙ row-monomial n _ ∙ ap (quotient n m) lead-read
 
-    pub quotient-product : (u : Monomial) → u ≡ monomial (b .n) (quotient (b .n) m (row (b .n) leadRead)) → product (b .n) (row (b .n) u) (leadAt b k) ≡ m
-    quotient-product u e = ap (λ x. product (b .n) x (leadAt b k)) (quotient-row u e) ∙ product-quotient (b .n) m (leadAt b k) d
+    pub quotient-product : (u : Monomial) → u ≡ monomial n (quotient n m (row n (leadRead g))) → product n (row n u) (row n (monomialAt g 0)) ≡ m
+    quotient-product u e = ap (λ x. product n x (row n (monomialAt g 0))) (quotient-row u e) ∙ product-quotient n m (row n (monomialAt g 0)) d
 
-  pub multiple-of-line : (m : Row (b .n)) (c : ℕ) (u : Row (b .n)) {w w′ : List ℕ} → u ≡ quotient (b .n) m (leadAt b k)
-      → Adds (b .p) (b .n) w w′ (λ h. scale (modulo (b .p) h) (residue (b .p) h c) (shift (rows (b .n)) u (polynomial (modulo (b .p) h) (generator (b .p) h (b .n) (termsIn (b .n) (generatorAt b k))))))
-      → Adds (b .p) (b .n) w w′ (lineMultiple b k c m)
-  unfolding lineMultiple
-  multiple-of-line m c u e a = adds-same (b .p) (b .n) (λ h x. ap (λ v. coef (modulo (b .p) h) (rows (b .n)) (scale (modulo (b .p) h) (residue (b .p) h c)
-      (shift (rows (b .n)) v (polynomial (modulo (b .p) h) (generator (b .p) h (b .n) (termsIn (b .n) (generatorAt b k)))))) x) e) a
+  pub multiple-of-line : (p : ℕ) (m : Row n) (c : ℕ) (u : Row n) {w w′ : List ℕ} → u ≡ quotient n m (row n (monomialAt g 0))
+      → Adds p n w w′ (λ h. scale (modulo p h) (residue p h c) (shift (rows n) u (polynomial (modulo p h) (generator p h n (termsIn n g))))) → Adds p n w w′ (multipleOf p n g c m)
+  unfolding multipleOf
+  multiple-of-line p m c u e a = adds-same p n (λ h x. ap (λ v. coef (modulo p h) (rows n) (scale (modulo p h) (residue p h c)
+      (shift (rows n) v (polynomial (modulo p h) (generator p h n (termsIn n g))))) x) e) a
 
-pub lcm-row : (b : Basis) (i j : ℕ) (r : Monomial) → r ≡ monomial (b .n) (lcm (b .n) (row (b .n) (leadRead b i)) (row (b .n) (leadRead b j))) → row (b .n) r ≡ lcm (b .n) (leadAt b i) (leadAt b j)
-lcm-row b i j r e = ap (row (b .n)) e ∙ row-monomial (b .n) _ ∙ ap₂ (lcm (b .n)) (lead-read b i) (lead-read b j)
+pub lcm-row : (n : ℕ) (f g : Generator) (r : Monomial) → r ≡ monomial n (lcm n (row n (leadRead f)) (row n (leadRead g))) → row n r ≡ lcm n (row n (monomialAt f 0)) (row n (monomialAt g 0))
+lcm-row n f g r e = ap (row n) e ∙ row-monomial n _ ∙ ap₂ (lcm n) (lead-read n f) (lead-read n g)

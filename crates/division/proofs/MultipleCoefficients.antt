@@ -18,7 +18,7 @@ use Rattle.groebner.proofs.Division.{coef-lead, coef-above}
 use Rattle.basis.specs.declared.Basis.{Basis}
 use Rattle.reduction.specs.Generators.{residue, linesOf}
 use Rattle.reduction.specs.Sound.{Sound}
-use Rattle.division.specs.Clearing.{leadAt, lineAt, lineMultiple}
+use Rattle.division.specs.Clearing.{leadAt, lineAt, multipleOf, lineMultiple}
 use Rattle.reduction.proofs.LineElements.{Filled}
 use Rattle.division.proofs.BasisSystem.{ringOf, lines-low, line-in, line-lead-at}
 
@@ -29,14 +29,14 @@ raised b sound k l m d h = sym (product-quotient (b .n) m (leadAt b k) d) ∙ ap
 
 module _ (b : Basis) (sound : Sound b) (filled : Filled b) (k : ℕ) (l : k < b .lines) (m : Row (b .n)) (d : divides (b .n) (leadAt b k) m ≡ true) (h : 1 < b .p) where
   pub multiple-top : (c : ℕ) → coef (modulo (b .p) h) (rows (b .n)) (lineMultiple b k c m h) m ≡ residue (b .p) h c
-  unfolding lineMultiple
+  unfolding multipleOf
   multiple-top c = coef-scale (residue-ring (b .p) h) (rows (b .n)) (residue (b .p) h c) _ m
       ∙ ap (modulo (b .p) h .mul (residue (b .p) h c)) (ap (coef (modulo (b .p) h) (rows (b .n)) _) (raised b sound k l m d h)
       ∙ coef-lead (ringOf b sound h) (grevlex-order (b .n)) (linesOf b h) (lines-low b sound h filled) (lineAt b h k) (line-in b sound h filled k l) (quotient (b .n) m (leadAt b k)))
       ∙ residue-ring (b .p) h .mul-one _
 
   pub multiple-above : (c : ℕ) (a : Row (b .n)) → Grevlex (b .n) m a → coef (modulo (b .p) h) (rows (b .n)) (lineMultiple b k c m h) a ≡ modulo (b .p) h .zero
-  unfolding lineMultiple
+  unfolding multipleOf
   multiple-above c a g = coef-scale (residue-ring (b .p) h) (rows (b .n)) (residue (b .p) h c) _ a
       ∙ ap (modulo (b .p) h .mul (residue (b .p) h c)) (coef-above (ringOf b sound h) (grevlex-order (b .n)) (linesOf b h) (lines-low b sound h filled) (lineAt b h k)
       (line-in b sound h filled k l) (quotient (b .n) m (leadAt b k)) a (subst (λ x. Grevlex (b .n) x a) (raised b sound k l m d h) g))

@@ -36,7 +36,7 @@ use Rattle.reduction.specs.Generators.{residue, linesOf}
 use Rattle.reduction.specs.Sound.{Sound}
 use Rattle.division.specs.GrevlexPlace.{place}
 use Rattle.division.specs.CoefficientArray.{Holds, Adds}
-use Rattle.division.specs.Clearing.{leadAt, lineAt, lineMultiple, Sweeps}
+use Rattle.division.specs.Clearing.{leadAt, lineAt, multipleOf, lineMultiple, Sweeps}
 use Rattle.division.specs.PairRemainders.{leadsLcm, Zero, pairDifference, PairFails, PairSays}
 use Rattle.division.proofs.GrevlexPlaces.{place-injective, place-grevlex}
 use Rattle.division.proofs.AddedTerms.{residue-of, adds-append, adds-holds}
@@ -118,7 +118,7 @@ module _ (b : Basis) (sound : Sound b) (filled : Filled b) (i j : ℕ) (li : i <
     raw = minus (modulo (b .p) h) (shift (rows (b .n)) u (polynomial (modulo (b .p) h) (lineAt b h i))) (shift (rows (b .n)) v (polynomial (modulo (b .p) h) (lineAt b h j)))
 
     difference-raw : Same (modulo (b .p) h) (rows (b .n)) (pairDifference b i j (leadsLcm b i j) h) raw
-    unfolding pairDifference lineMultiple raw u v
+    unfolding pairDifference multipleOf raw u v
     difference-raw = units (b .p) h (b .n) (shift (rows (b .n)) u (polynomial (modulo (b .p) h) (lineAt b h i))) (shift (rows (b .n)) v (polynomial (modulo (b .p) h) (lineAt b h j)))
 
     s₀ : Poly (ZMod (b .p)) (Row (b .n))

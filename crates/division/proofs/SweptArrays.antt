@@ -35,10 +35,11 @@ use Rattle.reduction.specs.Generators.{linesOf}
 use Rattle.reduction.specs.Sound.{Sound}
 use Rattle.division.specs.GrevlexPlace.{place, most-degree}
 use Rattle.division.specs.CoefficientArray.{Holds, Work}
-use Rattle.division.specs.Clearing.{leadAt, lineAt, lineMultiple, Clears, idle, subtracted, stuck, Sweeps}
+use Rattle.division.specs.Clearing.{leadAt, lineAt, multipleOf, lineMultiple, Sweeps}
 use Rattle.division.proofs.GrevlexPlaces.{place-grevlex, place-monotone, place-degree}
 use Rattle.division.proofs.AddedTerms.{residue-of, adds-work, adds-holds}
 use Rattle.division.proofs.MultipleCoefficients.{raised, multiple-top, multiple-above}
+use Rattle.division.proofs.ClearedMonomials.{Clears, idle, subtracted, stuck}
 use Rattle.division.proofs.KeptNormalForms.{NF-added, NF-top, NF-zero}
 use Rattle.reduction.proofs.LineElements.{Filled}
 use Rattle.division.proofs.BasisSystem.{ringOf, lines-low, systemOf, earliest-line, irreducible-at}
@@ -86,7 +87,7 @@ module _ (b : Basis) (sound : Sound b) (filled : Filled b) where
     clears-work (stuck e f q) = rw q k
 
     clears-kept : {r : Bool} → Clears b m w w′ r → Keeps w w′
-    unfolding lineMultiple
+    unfolding multipleOf
     clears-kept (idle e q) h s o = (s, rw q o, λ x. refl)
     clears-kept (stuck e f q) h s o = (s, rw q o, λ x. refl)
     clears-kept (subtracted j l f a) h s o = (
@@ -136,8 +137,8 @@ module _ (b : Basis) (sound : Sound b) (filled : Filled b) where
       rest : ZeroFrom (suc (place (b .n) m′)) w
       rest a l = s .above a (omega (arith, s .the-place))
 
-      pub swept-turn : {w′ : List ℕ} {r : Bool} → r ≡ true → Clears b m′ w w′ r → Swept w₀ w′ m′ (at - 1)
-      swept-turn {w′} q d = let c = subst (Clears b m′ w w′) q d in record {
+      pub swept-turn : {w′ : List ℕ} → Clears b m′ w w′ true → Swept w₀ w′ m′ (at - 1)
+      swept-turn {w′} c = record {
         size = clears-length c ∙ s .size;
         work = clears-work w w′ m′ (s .work) rest c;
         the-place = swept-place;
@@ -157,8 +158,8 @@ module _ (b : Basis) (sound : Sound b) (filled : Filled b) where
           n (i m′ ∙ ap (λ x. x .0) (sym top ∙ same m′ ∙ sym (remainder-NF (ringOf b sound h) (grevlex-order (b .n)) (linesOf b h) (lines-low b sound h filled) t m′)
           ∙ coef-nil (residue-ring (b .p) h) (rows (b .n)) m′))
 
-      pub swept-false : {w′ : List ℕ} {r : Bool} → r ≡ false → Clears b m′ w w′ r → Sweeps b w₀ w′ false
-      swept-false {w′} q d = let c = subst (Clears b m′ w w′) q d in record {
+      pub swept-false : {w′ : List ℕ} → Clears b m′ w w′ false → Sweeps b w₀ w′ false
+      swept-false {w′} c = record {
         work = clears-work w w′ m′ (s .work) rest c;
         cleared = λ q. absurd (false≢true q);
         verdict = λ h r proper o. (λ q. absurd (false≢true q), λ t. absurd (not-zero c h r o t));

@@ -23,7 +23,7 @@ use Rattle.basis.specs.declared.Basis.{Basis}
 use Rattle.reduction.specs.Generators.{linesOf}
 use Rattle.division.specs.GrevlexPlace.{place, most-degree}
 use Rattle.division.specs.CoefficientArray.{Work}
-use Rattle.division.specs.Clearing.{leadAt, lineAt, lineMultiple}
+use Rattle.division.specs.Clearing.{leadAt, lineAt, multipleOf, lineMultiple}
 
 -- The least common multiple of two leading monomials.
 abbrev pub leadsLcm : (b : Basis) → ℕ → ℕ → Row (b .n)
@@ -39,7 +39,7 @@ Zero b w = (a : Row (b .n)) → getD w (place (b .n) a) 0 ≡ 0
 
 -- u·f - v·g
 unfoldable pub pairDifference : (b : Basis) → ℕ → ℕ → Row (b .n) → 1 < b .p → Poly (ZMod (b .p)) (Row (b .n))
-unfolding lineMultiple
+unfolding multipleOf
 pairDifference b i j m h = lineMultiple b i 1 m h ++ lineMultiple b j (negation (b .p) 1) m h
 
 -- The S-polynomial of lines i and j has a remainder that is not zero.

@@ -41,8 +41,10 @@ fn load_pair(work: &mut [u16], b: Basis, i: usize, j: usize, top: Monomial)
     ensures { λ r. ⌜ Adds (b .p) (b .n) (now (work .entry)) (now (work .exit)) (pairDifference b i j (leadsLcm b i j)) ⌝ }
 {
     let one = Residue::ONE;
-    add_line(&mut *work, b, i, one, top);
-    add_line(&mut *work, b, j, one.neg(b.p), top);
+    let f = b.generators[i];
+    let g = b.generators[j];
+    add_line(&mut *work, one, top, f, b.p, b.n);
+    add_line(&mut *work, one.neg(b.p), top, g, b.p, b.n);
 }
 
 // Whether the remainder of the S-polynomial of lines i and j is not zero. The array holds zero, and does so afterwards if the remainder is zero.

@@ -12,7 +12,7 @@ use Rattle.groebner.specs.Polynomials.{_∈_}
 use Rattle.groebner.specs.Standard.{Finite, Lists}
 use Rattle.groebner.proofs.Members.{member?}
 
-pub among? : {A : Type 0} {P : A → Type 0} → ((x : A) → Dec (P x)) → (l : List A) → Dec ((x : A) × (x ∈ l) × P x)
+unfoldable pub among? : {A : Type 0} {P : A → Type 0} → ((x : A) → Dec (P x)) → (l : List A) → Dec ((x : A) × (x ∈ l) × P x)
 among? P? [] = no (λ t. List·Memᴰ·not-nil (t .1))
 among? {A} {P} P? (y ∷ l) = go (P? y) (among? P? l)
   where
@@ -21,7 +21,7 @@ among? {A} {P} P? (y ∷ l) = go (P? y) (among? P? l)
     go (no h) (yes t) = yes (t .0, List·Memᴰ·tail (t .1), t .2)
     go (no h) (no r) = no (λ t. ⊎-elim (λ e. h (subst P e (t .2))) (λ p. r (t .0, p, t .2)) (List·Memᴰ·cases-cons (t .1)))
 
-pub below? : {P : ℕ → Type 0} → ((i : ℕ) → Dec (P i)) → (n : ℕ) → Dec ((i : ℕ) → i < n → P i)
+unfoldable pub below? : {P : ℕ → Type 0} → ((i : ℕ) → Dec (P i)) → (n : ℕ) → Dec ((i : ℕ) → i < n → P i)
 below? P? zero = yes (λ i h. absurd (omega arith))
 below? {P} P? (suc n) = go (P? n) (below? P? n)
   where

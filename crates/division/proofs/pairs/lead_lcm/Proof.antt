@@ -30,7 +30,7 @@ returns : tie.Need-returns
 unfolding leadRead generatorAt
 returns c =
     let a = c .before .before .before .before .before .args in
-    lcm-row (a .t1) (a .i) (a .j) _ (c .lcm .ensures)
+    lcm-row (a .t1 .n) (generatorAt (a .t1) (a .i)) (generatorAt (a .t1) (a .j)) _ (c .lcm .ensures)
 
 pub lead-lcm-spec : {M : Type 1} → statement M
 lead-lcm-spec =
