@@ -31,7 +31,9 @@
 -- The demands:
 --   OutputLines       the lines of the output are those of the lex basis
 --   ReadingUnique     what is read from a text is determined by its bytes
+--   ReachedSizes      the sizes of the lex basis that is reached
 --   Systems           demand 3 follows from the outcome
+--   RoomSuffices      an output of 65,536 bytes is always long enough
 --   Usable            demand 2, its last sentence, follows from the outcome
 --   ExactlyUsable     no other text is refused only where the output is too short
 --   Meets             the outcome is all that the converter has to prove
@@ -65,7 +67,9 @@ pub mod OutcomeExists
 pub mod OutcomeCases
 pub mod OutputLines
 pub mod ReadingUnique
+pub mod ReachedSizes
 pub mod Systems
+pub mod RoomSuffices
 pub mod Usable
 pub mod ExactlyUsable
 pub mod Meets

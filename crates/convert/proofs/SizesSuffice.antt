@@ -5,6 +5,7 @@
 --   lead-divisors        the proper divisors of a leading monomial are irreducible
 --   standard-exponents   no exponent of an irreducible monomial passes the number of them
 --   sizes-suffice        a reduced basis has these sizes
+--   limits-suffice       with at most 32 irreducible monomials it is within limits 7 and 10
 use mathlib.Core.Path.{_≡_, refl, sym, subst}
 use mathlib.Core.List.{List, [], _∷_, _++_, map, List·Memᴰ·head, List·Memᴰ·tail, List·Memᴰ·cases-cons, List·Memᴰ·append-cases}
 use mathlib.Core.Logic.{_⊎_, inl, inr, ⊎-elim}
@@ -12,6 +13,7 @@ use Prim.Native.Nat.{ℕ, _+_, _*_, _≤_, _<_}
 use native.Mathlib.Omega.{arith}
 use lib.ListN.{length, length-append, length-map}
 use Rattle.residue.specs.Field.{Arithmetic}
+use Rattle.monomial.specs.Sizes.{most-variables, most-exponent}
 use Rattle.monomial.specs.Rows.{Row, exponent}
 use Rattle.monomial.specs.Ordering.{Divides, MonomialOrder, rows}
 use Rattle.monomial.proofs.AnyOrder.{asymmetric, irreflexive, divisor-below}
@@ -26,6 +28,7 @@ use Rattle.groebner.proofs.Ground.{divides-trans}
 use Rattle.groebner.proofs.Buchberger.{before-or}
 use Rattle.groebner.proofs.Clear.{clear-iff}
 use Rattle.groebner.proofs.RisingLists.{leads}
+use Rattle.tabtext.specs.Sizes.{most-standard, most-terms, most-lines}
 use Rattle.groebner.proofs.Counting.{Divisors, exponent-bounded, few-above, bound-monotone}
 
 pub record Sized {F : Type 0} (R : Arithmetic F) (n D : ℕ) (G : List (Line F (Row n))) : Type 0 where
@@ -109,3 +112,9 @@ module _ {F : Type 0} (R : Arithmetic F) (n : ℕ) {lt : Row n → Row n → Typ
       terms = λ g i. omega (arith, tail-short g i);
       exponents = λ g i t q v l. omega (arith, exponent-bounded n (t .1) B (monomial-divisors g i t q) v l);
     }
+
+    pub limits-suffice : length B ≤ most-standard → 0 < n → n ≤ most-variables → (length G ≤ most-lines) × ((g : Line F (Row n)) → g ∈ G → length (polynomial R g) ≤ most-terms)
+        × ((g : Line F (Row n)) → g ∈ G → (t : F × Row n) → t ∈ polynomial R g → (i : ℕ) → i < n → exponent n (t .1) i ≤ most-exponent)
+    limits-suffice few some variables =
+        let s = sizes-suffice most-standard few in
+        (omega (arith, s .lines some), (λ g i. omega (arith, s .terms g i)), (λ g i t q v l. omega (arith, s .exponents g i t q v l)))

@@ -8,21 +8,17 @@ use native.Mathlib.Omega.{arith}
 use Rattle.residue.specs.Prime.{Prime}
 use Rattle.residue.specs.Field.{ZMod, modulo}
 use Rattle.monomial.specs.Rows.{Row}
-use Rattle.monomial.specs.Orders.{variables}
-use Rattle.monomial.proofs.LexOrder.{lex-order, variables-rank}
 use Rattle.groebner.specs.Lines.{Line}
-use Rattle.tabtext.specs.Sizes.{most-standard}
 use Rattle.tabtext.specs.Text.{Bytes}
 use Rattle.basis.specs.Checks.{passed}
 use Rattle.convert.specs.Written.{written}
 use Rattle.convert.specs.Outcome.{Outcome}
 use Rattle.convert.specs.Contract.{OutputLines, Systems}
-use Rattle.convert.proofs.SizesSuffice.{Sized, standard-exponents, sizes-suffice}
-use Rattle.convert.proofs.FewIrreducible.{few-of}
-use Rattle.convert.proofs.Conversions.{conversion-standard, conversion-systems}
+use Rattle.convert.proofs.Conversions.{conversion-systems}
 use Rattle.convert.proofs.ConvertedChecks.{linesIn, passed-output}
 use Rattle.convert.proofs.OutcomeCases.{Early, Reached, outcome-cases}
-use Rattle.convert.proofs.OutputLines.{Small, written-lines, input-lines}
+use Rattle.convert.proofs.OutputLines.{written-lines, input-lines}
+use Rattle.convert.proofs.ReachedSizes.{reached-sized}
 
 module _ (input : Bytes) (room : ℕ) (out : Bytes) (a : Reached input room (passed out)) where
   abbrev p : ℕ
@@ -40,18 +36,8 @@ module _ (input : Bytes) (room : ℕ) (out : Bytes) (a : Reached input room (pas
   abbrev G : List (Line (ZMod p) (Row n))
   G = linesIn (a .basis) h
 
-  -- The lex basis has as many irreducible monomials as the grevlex basis, at most 32.
-  sized : Sized (modulo p h) n most-standard (a .H) × Small n (a .B)
-  sized =
-      let (B₀, few, irreducible) = few-of n G (a .small) in
-      let (standard, count) = conversion-standard p prime n G (a .reduced .lines) (a .reduced .groebner) B₀ irreducible (a .H) (a .B) (a .converts) in
-      let order = lex-order n (variables n) (variables-rank n) in (
-        sizes-suffice (modulo p h) n order (a .H) (a .converts .reduced) (a .B) standard most-standard (omega arith),
-        record { few = omega arith; exponents = λ m i v l. omega (arith, standard-exponents (modulo p h) n order (a .H) (a .converts .reduced) (a .B) standard m i v l) },
-      )
-
   output : OutputLines (written p h n (a .H) (a .B)) p h n (a .H)
-  output = let (some, few) = a .passes .variables in written-lines p h n (a .H) (a .B) (a .passes .modulus .size) some few (sized .0) (sized .1)
+  output = let (some, few) = a .passes .variables in written-lines p h n (a .H) (a .B) (a .passes .modulus .size) some few (reached-sized a .0) (reached-sized a .1)
 
   reached-systems : Systems input out
   reached-systems = record {

@@ -1,4 +1,5 @@
 -- A text that passes checks 2 to 11 has at most 65,536 bytes.
+--   widest           bytes of the widest line
 --   text-width       lines of at most k bytes each
 --   passes-width     a text that passes
 use Prim.Native.Nat.{ℕ, _+_, _*_, _≤_}
@@ -28,7 +29,7 @@ text-width k (l ∷ ls) h =
     (omega (arith, h .0, text-width k ls (h .1), length-append (line l) (10 ∷ text ls), length-append (line l) (10 ∷ [])))
 
 -- The widest line: 33 terms of 16 bytes.
-abbrev widest : ℕ
+abbrev pub widest : ℕ
 widest = 5 + 16 * most-terms
 
 generator-short : (p n : ℕ) (ts : List Term) → p ≤ largest-modulus → n ≤ most-variables → GoodLine p n ts → length (printed (generator ts)) ≤ widest
