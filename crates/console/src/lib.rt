@@ -3,6 +3,10 @@ ghost use mathlib.Core.Path.{_≡_};
 ghost use Prim.Native.Nat.{suc};
 ghost use lib.ListN.{length};
 ghost use Rattle.tabtext.specs.Sizes.{«most-bytes»};
+ghost use Rattle.tabtext.specs.Text.{Bytes};
+ghost use Rattle.basis.specs.Checks.{Judged};
+ghost use Rattle.convert.specs.Outcome.{Outcome};
+ghost use Rattle.convert.specs.Contract.{pair, returned};
 ghost use Rattle.io.specs.Counts.{Counts};
 use basis::refusal::Refusal;
 use convert::Answer;
@@ -38,8 +42,10 @@ fn print_bytes(output: &[u8], size: usize)
     io::write_all(STDOUT_FILENO, &output[..size]);
 }
 
-// Prints the output for a text, or its refusal.
-pub fn print_converted(input: &[u8]) -> Answer {
+// Prints the output for a text, or its refusal. The answer is that for an output of 65,536 bytes, and so never 16.
+pub fn print_converted(input: &[u8]) -> Answer
+    ensures { λ r. ⌜ ((o : Judged Bytes) × Outcome (now (input .entry)) most-bytes o × (pair r ≡ returned o)) × (¬ (pair r .0 ≡ 16)) ⌝ }
+{
     let mut output = output_buffer();
     let answer = convert(input, &mut output);
     match answer {

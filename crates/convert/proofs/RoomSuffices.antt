@@ -1,7 +1,8 @@
 -- An output of 65,536 bytes is always long enough.
 --   written-width    the text of a lex basis within the sizes
 --   room-suffices    refusal 16 does not come where the room is that
-use mathlib.Core.Path.{_≡_, sym, ap, subst}
+--   program-answer   so an answer for an output of that length is not 16
+use mathlib.Core.Path.{_≡_, sym, _∙_, ap, subst}
 use mathlib.Core.List.{List, [], _∷_, _++_, map}
 use mathlib.Core.Logic.{_⊎_, inl, inr}
 use Prim.Native.Nat.{ℕ, _+_, _*_, _<_, _≤_}
@@ -20,9 +21,11 @@ use Rattle.tabtext.specs.Text as tab
 use Rattle.tabtext.specs.Printed.{printed}
 use Rattle.tabtext.proofs.Separators.{end-counted, points-counted}
 use Rattle.tabtext.proofs.Widths.{SmallRow, SmallTerm, number-width-3, header-width, counted-width, generator-width-most, standard-width-most}
-use Rattle.basis.specs.Checks.{refused}
+use Rattle.basis.specs.Checks.{Judged, refused, passed}
 use Rattle.convert.specs.Written.{exponents, polyLine, written}
 use Rattle.convert.specs.Outcome.{Fits, Outcome}
+use Rattle.convert.specs.Contract.{pair, returned, Meets}
+use Rattle.convert.specs.declared.Answer.{Answer}
 use Rattle.convert.proofs.EachElement.{each-map, each-append}
 use Rattle.convert.proofs.LineTerms.{exponents-length, exponents-each, termsOf, text-lines}
 use Rattle.convert.proofs.TextWidth.{widest, text-width}
@@ -95,3 +98,14 @@ room-suffices input line w = at (outcome-cases input most-bytes (refused 16 line
     at : ¬ (Early (refused 16 line) ⊎ Reached input most-bytes (refused 16 line))
     at (inl (k, l, low, high, e)) = let z : 16 ≡ k = cc in omega arith
     at (inr a) = reached-fits a
+
+never-16 : (input : Bytes) (o : Judged Bytes) → Outcome input most-bytes o → ¬ (returned o .0 ≡ 16)
+never-16 input (refused k line) w e = room-suffices input line (subst (λ k. Outcome input most-bytes (refused k line)) e w)
+never-16 input (passed out) w e = omega arith
+
+pub program-answer : {input was left : Bytes} {a : Answer} → most-bytes ≡ length was → Meets input was left a
+    → ((o : Judged Bytes) × Outcome input most-bytes o × (pair a ≡ returned o)) × (¬ (pair a .0 ≡ 16))
+program-answer {input} {a = a} size m =
+    let (o, w, e, l) = m .outcome in
+    let at : Outcome input most-bytes o = subst (λ room. Outcome input room o) (sym size) w in
+    ((o, at, e), λ q. never-16 input o at (ap (λ (x : ℕ × ℕ). x .0) (sym e) ∙ q))
