@@ -45,11 +45,12 @@ use Rattle.basis.specs.declared.Verdict.{Verdict}
 use Rattle.basis.specs.declared.Verdict.the-variants.{Passed, Refused}
 use Rattle.basis.specs.declared.refusal.Refusal.{Refusal}
 use Rattle.basis.specs.declared.refusal.Refusal.the-variants.{NotReduced, NotZeroDimensional, TooManyStandard, NotGroebner}
-use Rattle.reduction.specs.Generators.{linesOf}
+use Rattle.reduction.specs.HeldLines.{linesOf}
 use Rattle.reduction.specs.Leads.{rowsOf, LeadsOf, multiple, Powers, CountIs}
 use Rattle.reduction.specs.Sound.{Sound}
 use Rattle.reduction.specs.Whole.{Divided, Large, Failing, Smallest, refuse_at-smallest_else_, refuse_at-0-if_else_}
 use Rattle.reduction.specs.declared.irreducible.Irreducibles.{Irreducibles}
+use Rattle.reduction.proofs.EachElement.{each-of, each-at}
 use Rattle.reduction.proofs.ArrayRows.{rows-length}
 use Rattle.reduction.proofs.LineElements.{Filled}
 use Rattle.reduction.proofs.SmallestLine.{smallest-refuses, smallest-passes}
@@ -66,16 +67,6 @@ use Rattle.multiplication.proofs.IrreducibleLists.{multiple-leads}
 use Rattle.division.specs.PairRemainders.{LowPairs}
 use Rattle.division.proofs.LowPairs.{low-pairs}
 use Rattle.acceptance.specs.Answers.{Outcome, LeadsPass, WholeSays}
-
--- What each element of a list has.
-module _ {A : Type 0} (P : A → Type 0) where
-  each-of : (l : List A) → ((x : A) → x ∈ l → P x) → Each P l
-  each-of [] h = tt
-  each-of (x ∷ l) h = (h x (List·Memᴰ·head refl), each-of l (λ y q. h y (List·Memᴰ·tail q)))
-
-  each-at : (l : List A) {x : A} → Each P l → x ∈ l → P x
-  each-at [] a q = absurd (List·Memᴰ·not-nil q)
-  each-at (y ∷ l) a q = ⊎-elim (λ e. subst P (sym e) (a .0)) (λ r. each-at l (a .1) r) (List·Memᴰ·cases-cons q)
 
 -- Nothing comes after the checks.
 abbrev Passes : Judged Unit → Type 0

@@ -8,7 +8,7 @@ ghost use Prim.Native.Nat.{_<_};
 ghost use Rattle.residue.specs.Field.{modulo};
 ghost use Rattle.monomial.specs.Ordering.{rows, Grevlex};
 ghost use Rattle.basis.specs.declared.Verdict.the-variants.{Refused};
-ghost use Rattle.reduction.specs.Generators.{linesOf};
+ghost use Rattle.reduction.specs.HeldLines.{linesOf};
 ghost use Rattle.reduction.specs.Leads.{LeadsOf};
 ghost use Rattle.reduction.specs.Sound.{Sound};
 ghost use Rattle.reduction.specs.Whole.{Failing, Smallest};

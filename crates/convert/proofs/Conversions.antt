@@ -25,7 +25,7 @@ use Rattle.groebner.proofs.EnumerationOutcome.{Outcome}
 use Rattle.groebner.proofs.Equivalence.{equivalent}
 use Rattle.groebner.proofs.Instance.{ground, Converted, converted, one-basis}
 use Rattle.convert.specs.Outcome.{RisingRows, Converts}
-use Rattle.convert.proofs.EachElement.{each-at, each-of}
+use Rattle.reduction.proofs.EachElement.{each-at, each-of}
 use Rattle.convert.proofs.LexEnumeration.{enumerated}
 
 module _ {M : Type 0} (lt : M → M → Type 0) where

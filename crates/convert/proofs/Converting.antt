@@ -24,7 +24,7 @@ use Rattle.groebner.proofs.EnumerationOutcome.{Outcome}
 use Rattle.groebner.proofs.Next.{variables-ranking}
 use Rattle.tabtext.specs.Text.{Bytes}
 use Rattle.basis.specs.declared.Basis.{Basis}
-use Rattle.reduction.specs.Generators as read
+use Rattle.reduction.specs.HeldLines as read
 use Rattle.reduction.specs.declared.irreducible.Irreducibles.{Irreducibles}
 use Rattle.multiplication.specs.declared.coordinates.Tables.{Tables}
 use Rattle.acceptance.specs.Answers.{Convertible}

@@ -22,7 +22,7 @@ use Rattle.groebner.proofs.ReducibleTest.{reducible}
 use Rattle.groebner.proofs.IrreducibleList.{irreducibles, Counts, irreducibles-of-lines}
 use Rattle.tabtext.specs.Sizes.{most-standard}
 use Rattle.reduction.specs.Whole.{Large}
-use Rattle.convert.proofs.EachElement.{each-at, each-of}
+use Rattle.reduction.proofs.EachElement.{each-at, each-of}
 
 module _ {F : Type 0} (n : ℕ) (G : List (Line F (Row n))) where
   abbrev Irreducible : Row n → Type 0

@@ -24,7 +24,7 @@ use Rattle.tabtext.specs.Text.{Term, Number, Exponents, generator, Form}
 use Rattle.basis.proofs.GoodLines.{GoodTerm, GoodLine}
 use Rattle.basis.proofs.GoodLines as good
 use Rattle.convert.specs.Written.{exponents}
-use Rattle.convert.proofs.EachElement.{each-map}
+use Rattle.reduction.proofs.EachElement.{each-map}
 use Rattle.convert.proofs.SizesSuffice.{Sized}
 use Rattle.convert.proofs.LineTerms.{exponents-length, exponents-each, row-of-exponents, termsOf}
 

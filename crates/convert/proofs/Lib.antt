@@ -1,6 +1,5 @@
 -- The theorems of the crate `convert`.
 -- Bases:
---   EachElement       what holds of every element of a list
 --   SizesSuffice      the sizes of a reduced basis with few irreducible monomials
 --   FewIrreducible    check 14: more than 32 irreducible monomials, or the list of them
 --   ComputedGround    residues and monomials with decisions and reciprocals that compute
@@ -39,7 +38,6 @@
 --   Meets             the outcome is all that the converter has to prove
 --   LineOrder         inputs that differ only in the order of their poly lines give equal bytes
 --   DottedCases       the cases of document 01 with a dot: one list, one claim
-pub mod EachElement
 pub mod SizesSuffice
 pub mod FewIrreducible
 pub mod ComputedGround

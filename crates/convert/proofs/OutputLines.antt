@@ -22,7 +22,7 @@ use Rattle.basis.proofs.GoodLines.{GoodLine}
 use Rattle.basis.proofs.Passes.{Passes}
 use Rattle.convert.specs.Written.{exponents, written}
 use Rattle.convert.specs.Contract.{InputLines, OutputLines}
-use Rattle.convert.proofs.EachElement.{each-at, each-map, each-append}
+use Rattle.reduction.proofs.EachElement.{each-at, each-map, each-append}
 use Rattle.convert.proofs.SizesSuffice.{Sized}
 use Rattle.convert.proofs.LineTerms.{exponents-length, exponents-each, termsOf, text-lines, generators-of-terms}
 use Rattle.convert.proofs.GoodTerms.{terms-form}

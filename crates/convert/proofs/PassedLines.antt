@@ -15,7 +15,7 @@ use Rattle.basis.proofs.GoodLines.{GoodTerm, GoodLine}
 use Rattle.basis.proofs.GoodLines as good
 use Rattle.reduction.specs.Generators.{residue, generator, generators}
 use Rattle.reduction.proofs.SoundLines.{proper-of-falling, tail-nonzero}
-use Rattle.convert.proofs.EachElement.{each-at}
+use Rattle.reduction.proofs.EachElement.{each-at}
 
 module _ (p : ℕ) (h : 1 < p) (n : ℕ) where
   -- Terms each smaller than the one before it fall.

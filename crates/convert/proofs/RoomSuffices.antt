@@ -26,7 +26,7 @@ use Rattle.convert.specs.Written.{exponents, polyLine, written}
 use Rattle.convert.specs.Outcome.{Fits, Outcome}
 use Rattle.convert.specs.Contract.{pair, returned, Meets}
 use Rattle.convert.specs.declared.Answer.{Answer}
-use Rattle.convert.proofs.EachElement.{each-map, each-append}
+use Rattle.reduction.proofs.EachElement.{each-map, each-append}
 use Rattle.convert.proofs.LineTerms.{exponents-length, exponents-each, termsOf, text-lines}
 use Rattle.convert.proofs.TextWidth.{widest, text-width}
 use Rattle.convert.proofs.SizesSuffice.{Sized}

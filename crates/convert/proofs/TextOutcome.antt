@@ -21,7 +21,8 @@ use Rattle.basis.specs.declared.Verdict.the-variants.{Passed, Refused}
 use Rattle.basis.specs.declared.refusal.Refusal.{Refusal}
 use Rattle.basis.specs.declared.refusal.Refusal.the-variants.{TooLong}
 use Rattle.basis.proofs.Passes.{passes-iff}
-use Rattle.reduction.specs.Generators.{generators, linesOf}
+use Rattle.reduction.specs.Generators.{generators}
+use Rattle.reduction.specs.HeldLines.{linesOf}
 use Rattle.reduction.specs.declared.irreducible.Irreducibles.{Irreducibles}
 use Rattle.multiplication.specs.declared.coordinates.Tables.{Tables}
 use Rattle.acceptance.specs.Answers as acceptance

@@ -19,7 +19,7 @@ use Rattle.tabtext.proofs.Widths.{SmallTerm, number-width-3, header-width, coun
 use Rattle.basis.specs.Checks.{Basis}
 use Rattle.basis.proofs.GoodLines.{GoodTerm, GoodLine}
 use Rattle.basis.proofs.Passes.{Passes}
-use Rattle.convert.proofs.EachElement.{each-at, each-of}
+use Rattle.reduction.proofs.EachElement.{each-at, each-of}
 
 pub text-width : (k : ℕ) (ls : List Line) → Each (λ l. length (printed l) ≤ k) ls → length (text ls) ≤ k * length ls
 unfolding text printed

@@ -28,7 +28,7 @@ use Rattle.reduction.proofs.WholeOutcome.{passing-iff, whole-of-passing}
 use Rattle.convert.specs.Written.{written}
 use Rattle.convert.specs.Outcome.{AfterChecks, Outcome}
 use Rattle.convert.specs.Contract.{Usable}
-use Rattle.convert.proofs.EachElement.{each-map}
+use Rattle.reduction.proofs.EachElement.{each-map}
 use Rattle.convert.proofs.SizesSuffice.{Sized, sizes-suffice}
 use Rattle.convert.proofs.FewIrreducible.{few-of}
 use Rattle.convert.proofs.LineTerms.{termsOf, text-lines, generators-of-terms}

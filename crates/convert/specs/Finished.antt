@@ -12,7 +12,7 @@ use Rattle.tabtext.specs.Text.{Bytes}
 use Rattle.basis.specs.Checks.{passed}
 use Rattle.basis.specs.declared.Basis.{Basis}
 use Rattle.basis.specs.declared.refusal.Refusal.the-variants.{NoRoom}
-use Rattle.reduction.specs.Generators.{linesOf}
+use Rattle.reduction.specs.HeldLines.{linesOf}
 use Rattle.convert.specs.Written.{written}
 use Rattle.convert.specs.Outcome.{Converts}
 use Rattle.convert.specs.Contract.{after}

@@ -28,7 +28,7 @@ use Rattle.groebner.proofs.Division.{Place, Low, rewriting}
 use Rattle.groebner.proofs.NormalForms.{Rewriting}
 use Rattle.groebner.proofs.Instance.{ground}
 use Rattle.basis.specs.declared.Basis.{Basis}
-use Rattle.reduction.specs.Generators.{linesOf}
+use Rattle.reduction.specs.HeldLines.{linesOf}
 use Rattle.reduction.specs.Leads.{rowsOf, LeadsOf}
 use Rattle.reduction.specs.Sound.{generatorAt, Sound}
 use Rattle.division.specs.Clearing.{leadAt, lineAt, FirstDivisor}

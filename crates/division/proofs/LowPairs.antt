@@ -11,7 +11,7 @@ use Rattle.monomial.specs.Ordering.{rows}
 use Rattle.groebner.specs.Polynomials.{_∈_}
 use Rattle.groebner.specs.Standard.{ZeroDimensional}
 use Rattle.basis.specs.declared.Basis.{Basis}
-use Rattle.reduction.specs.Generators.{linesOf}
+use Rattle.reduction.specs.HeldLines.{linesOf}
 use Rattle.reduction.specs.Sound.{Sound}
 use Rattle.reduction.specs.Whole.{Divided, Large}
 use Rattle.reduction.proofs.Elements.{element-in}

@@ -16,7 +16,8 @@ use Rattle.groebner.proofs.Modules.{mul-zero}
 use Rattle.groebner.proofs.Terms.{coef-scale}
 use Rattle.groebner.proofs.Division.{coef-lead, coef-above}
 use Rattle.basis.specs.declared.Basis.{Basis}
-use Rattle.reduction.specs.Generators.{residue, linesOf}
+use Rattle.reduction.specs.Generators.{residue}
+use Rattle.reduction.specs.HeldLines.{linesOf}
 use Rattle.reduction.specs.Sound.{Sound}
 use Rattle.division.specs.Clearing.{leadAt, lineAt, multipleOf, lineMultiple}
 use Rattle.reduction.proofs.LineElements.{Filled}

@@ -32,7 +32,8 @@ use Rattle.groebner.proofs.Division.{remainder, remainder-unique}
 use Rattle.groebner.proofs.NormalForms.{NF}
 use Rattle.groebner.proofs.Buchberger.{zero-iff-NF}
 use Rattle.basis.specs.declared.Basis.{Basis}
-use Rattle.reduction.specs.Generators.{residue, linesOf}
+use Rattle.reduction.specs.Generators.{residue}
+use Rattle.reduction.specs.HeldLines.{linesOf}
 use Rattle.reduction.specs.Sound.{Sound}
 use Rattle.division.specs.GrevlexPlace.{place}
 use Rattle.division.specs.CoefficientArray.{Holds, Adds}

@@ -13,7 +13,7 @@ use lib.ListN.{length, getD}
 use Rattle.residue.specs.Field.{modulo}
 use Rattle.monomial.specs.Ordering.{rows, Grevlex}
 use Rattle.basis.specs.declared.Basis.{Basis}
-use Rattle.reduction.specs.Generators.{linesOf}
+use Rattle.reduction.specs.HeldLines.{linesOf}
 use Rattle.reduction.specs.Sound.{Sound}
 use Rattle.reduction.specs.Whole.{Failing, Smallest}
 use Rattle.division.specs.GrevlexPlace.{place, space}

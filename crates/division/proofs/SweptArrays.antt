@@ -31,7 +31,7 @@ use Rattle.groebner.proofs.Division.{remainder-NF}
 use Rattle.groebner.proofs.NormalForms.{NF}
 use Rattle.groebner.proofs.GroebnerBases.{zero-remainder}
 use Rattle.basis.specs.declared.Basis.{Basis}
-use Rattle.reduction.specs.Generators.{linesOf}
+use Rattle.reduction.specs.HeldLines.{linesOf}
 use Rattle.reduction.specs.Sound.{Sound}
 use Rattle.division.specs.GrevlexPlace.{place, most-degree}
 use Rattle.division.specs.CoefficientArray.{Holds, Work}

@@ -21,7 +21,8 @@ use Rattle.groebner.specs.Remainders.{Remainder}
 use Rattle.tabtext.specs.Printed.{termsIn}
 use Rattle.tabtext.specs.declared.print.Generator.{Generator}
 use Rattle.basis.specs.declared.Basis.{Basis}
-use Rattle.reduction.specs.Generators.{residue, generator, linesOf}
+use Rattle.reduction.specs.Generators.{residue, generator}
+use Rattle.reduction.specs.HeldLines.{linesOf}
 use Rattle.reduction.specs.Sound.{monomialAt, generatorAt}
 use Rattle.division.specs.GrevlexPlace.{place}
 use Rattle.division.specs.CoefficientArray.{Holds, Work}

@@ -20,7 +20,7 @@ use Rattle.groebner.specs.Polynomials.{Poly}
 use Rattle.groebner.specs.Remainders.{Remainder}
 use Rattle.groebner.specs.Bases.{SPolynomial}
 use Rattle.basis.specs.declared.Basis.{Basis}
-use Rattle.reduction.specs.Generators.{linesOf}
+use Rattle.reduction.specs.HeldLines.{linesOf}
 use Rattle.division.specs.GrevlexPlace.{place, most-degree}
 use Rattle.division.specs.CoefficientArray.{Work}
 use Rattle.division.specs.Clearing.{leadAt, lineAt, multipleOf, lineMultiple}

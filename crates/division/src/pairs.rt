@@ -13,7 +13,7 @@ ghost use Rattle.residue.specs.Field.{modulo};
 ghost use Rattle.monomial.specs.Rows.{degree};
 ghost use Rattle.monomial.specs.Ordering.{rows, Grevlex};
 ghost use Rattle.monomial.specs.Represented.{row};
-ghost use Rattle.reduction.specs.Generators.{linesOf};
+ghost use Rattle.reduction.specs.HeldLines.{linesOf};
 ghost use Rattle.reduction.specs.Sound.{Sound};
 ghost use Rattle.reduction.specs.Whole.{Failing, Smallest};
 ghost use Rattle.division.specs.GrevlexPlace.{«most-degree», space};

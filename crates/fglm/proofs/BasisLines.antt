@@ -21,7 +21,7 @@ use Rattle.groebner.proofs.Next.{Ranking}
 use Rattle.groebner.proofs.RisingLists.{rising-once}
 use Rattle.groebner.proofs.EnumerationOutcome.{Outcome}
 use Rattle.basis.specs.declared.Basis.{Basis}
-use Rattle.reduction.specs.Generators as read
+use Rattle.reduction.specs.HeldLines as read
 use Rattle.reduction.specs.declared.irreducible.Irreducibles.{Irreducibles}
 use Rattle.multiplication.specs.Rows.{AllBelow, cellOf}
 use Rattle.multiplication.specs.Listed.{listed, ListsIrreducibles}

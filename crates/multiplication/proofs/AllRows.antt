@@ -24,7 +24,7 @@ use Rattle.groebner.proofs.Division.{Low}
 use Rattle.groebner.proofs.MultiplicationRows.{Filled}
 use Rattle.tabtext.specs.Sizes.{most-standard}
 use Rattle.basis.specs.declared.Basis.{Basis}
-use Rattle.reduction.specs.Generators.{linesOf}
+use Rattle.reduction.specs.HeldLines.{linesOf}
 use Rattle.reduction.specs.Sound.{Sound}
 use Rattle.multiplication.specs.Rows.{coordinate, rowAt, Below, AllBelow, coordinatesOf, cellOf}
 use Rattle.multiplication.specs.Listed.{listed, ListsIrreducibles}

@@ -19,7 +19,7 @@ use Rattle.groebner.proofs.Instance.{ground, criterion}
 use Rattle.groebner.proofs.MultiplicationRows.{RowsCommute, Filled, rows-commute-iff}
 use Rattle.groebner.proofs.RisingLists.{lists-once}
 use Rattle.basis.specs.declared.Basis.{Basis}
-use Rattle.reduction.specs.Generators.{linesOf}
+use Rattle.reduction.specs.HeldLines.{linesOf}
 use Rattle.reduction.specs.Sound.{Sound}
 use Rattle.reduction.specs.declared.irreducible.Irreducibles.{Irreducibles}
 use Rattle.multiplication.specs.Rows.{AllBelow, cellOf}

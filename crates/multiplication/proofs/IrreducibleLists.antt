@@ -27,7 +27,7 @@ use Rattle.groebner.proofs.Next.{next, next-lex, variables-ranking}
 use Rattle.groebner.proofs.IrreducibleList.{irreducibles, Counts, irreducibles-of-lines}
 use Rattle.tabtext.specs.Sizes.{most-standard}
 use Rattle.basis.specs.declared.Basis.{Basis}
-use Rattle.reduction.specs.Generators.{linesOf}
+use Rattle.reduction.specs.HeldLines.{linesOf}
 use Rattle.reduction.specs.Leads.{rowsOf, LeadsOf, multiple, CountIs}
 use Rattle.reduction.specs.Sound.{Sound}
 use Rattle.reduction.specs.declared.irreducible.Irreducibles.{Irreducibles}

@@ -35,7 +35,8 @@ use Rattle.groebner.proofs.MultiplicationRows.{multiply}
 use Rattle.tabtext.specs.Sizes.{most-standard}
 use Rattle.tabtext.specs.Printed.{termsIn}
 use Rattle.basis.specs.declared.Basis.{Basis}
-use Rattle.reduction.specs.Generators.{residue, generator, linesOf}
+use Rattle.reduction.specs.Generators.{residue, generator}
+use Rattle.reduction.specs.HeldLines.{linesOf}
 use Rattle.reduction.specs.Sound.{Sound, monomialAt, generatorAt}
 use Rattle.multiplication.specs.Rows.{coordinate, indicator, rowAt, coordinatesOf, cellOf, Multiplied}
 use Rattle.multiplication.specs.Listed.{listed, listedAt, Place, TailRow, LineOf, ListsIrreducibles, Passes}

@@ -10,7 +10,7 @@ use Rattle.monomial.specs.Ordering.{rows, Grevlex}
 use Rattle.groebner.specs.Bases.{Groebner, Buchberger}
 use Rattle.groebner.proofs.MultiplicationRows.{Filled}
 use Rattle.basis.specs.declared.Basis.{Basis}
-use Rattle.reduction.specs.Generators.{linesOf}
+use Rattle.reduction.specs.HeldLines.{linesOf}
 use Rattle.reduction.specs.declared.irreducible.Irreducibles.{Irreducibles}
 use Rattle.multiplication.specs.Rows.{AllBelow, cellOf}
 use Rattle.multiplication.specs.Listed.{listed}

@@ -27,7 +27,8 @@ use Rattle.tabtext.specs.Sizes.{most-standard}
 use Rattle.tabtext.specs.Printed.{termsIn}
 use Rattle.tabtext.specs.declared.print.Generator.{Generator}
 use Rattle.basis.specs.declared.Basis.{Basis}
-use Rattle.reduction.specs.Generators.{generator, linesOf}
+use Rattle.reduction.specs.Generators.{generator}
+use Rattle.reduction.specs.HeldLines.{linesOf}
 use Rattle.reduction.specs.Sound.{monomialAt, generatorAt}
 use Rattle.multiplication.specs.Rows.{coordinate, Below, coordinatesOf}
 use Rattle.multiplication.specs.declared.coordinates.Coordinates.{Coordinates}

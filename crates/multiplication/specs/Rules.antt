@@ -14,7 +14,7 @@ use Rattle.groebner.specs.Lines.{Line, Reducible}
 use Rattle.groebner.proofs.Variables.{variable}
 use Rattle.groebner.proofs.MultiplicationRows.{multiply}
 use Rattle.basis.specs.declared.Basis.{Basis}
-use Rattle.reduction.specs.Generators.{linesOf}
+use Rattle.reduction.specs.HeldLines.{linesOf}
 use Rattle.multiplication.specs.Rows.{Below, coordinatesOf, cellOf}
 use Rattle.multiplication.specs.Listed.{listed}
 use Rattle.multiplication.specs.declared.coordinates.Coordinates.{Coordinates}

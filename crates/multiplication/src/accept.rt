@@ -4,7 +4,7 @@ ghost use Rattle.residue.specs.Field.{modulo};
 ghost use Rattle.monomial.specs.Ordering.{rows, Grevlex};
 ghost use Rattle.groebner.specs.Lines.{Lines};
 ghost use Rattle.groebner.specs.Bases.{Clear};
-ghost use Rattle.reduction.specs.Generators.{linesOf};
+ghost use Rattle.reduction.specs.HeldLines.{linesOf};
 ghost use Rattle.reduction.specs.Sound.{Sound};
 ghost use Rattle.multiplication.specs.Listed.{ListsIrreducibles};
 ghost use Rattle.multiplication.specs.Acceptance.{Acceptance};

@@ -15,7 +15,7 @@ ghost use Rattle.groebner.proofs.Division.{Low};
 ghost use Rattle.groebner.proofs.MultiplicationRows.{Filled};
 ghost use Rattle.groebner.proofs.Variables.{variable as «x»};
 ghost use Rattle.tabtext.specs.Sizes.{«most-standard»};
-ghost use Rattle.reduction.specs.Generators.{linesOf};
+ghost use Rattle.reduction.specs.HeldLines.{linesOf};
 ghost use Rattle.reduction.specs.Sound.{SoundLine, Sound};
 ghost use Rattle.multiplication.specs.Rows.{Below, AllBelow, cellOf};
 ghost use Rattle.multiplication.specs.Rules.{RowFor};

@@ -2,7 +2,6 @@
 --   few-irreducible        a list of irreducible monomials, each once, has at most 32
 --   irreducible-listed     zero-dimensional lines have a list of all of them, of at most 32
 use mathlib.Core.List.{List, [], _∷_, List·Memᴰ·head, List·Memᴰ·tail, List·Memᴰ·not-nil, List·Memᴰ·cases-cons}
-use mathlib.Core.Path.{refl}
 use mathlib.Core.Logic.{⊎-elim, by-cases}
 use Prim.Native.Nat.{ℕ, zero, suc, _≤_}
 use native.Mathlib.Decide.{decLe}
@@ -16,8 +15,8 @@ use Rattle.groebner.specs.Lines.{Once, Line, Reducible}
 use Rattle.groebner.specs.Standard.{ZeroDimensional, Lists}
 use Rattle.groebner.proofs.ZeroDimension.{irreducible-list}
 use Rattle.tabtext.specs.Sizes.{most-standard}
-use Rattle.tabtext.specs.Text.{Each}
 use Rattle.reduction.specs.Whole.{Large}
+use Rattle.reduction.proofs.EachElement.{each-of}
 
 module _ {A : Type 0} where
   of-take : (k : ℕ) (l : List A) {x : A} → x ∈ take k l → x ∈ l
@@ -29,10 +28,6 @@ module _ {A : Type 0} where
   once-take zero l w = tt
   once-take (suc k) [] w = tt
   once-take (suc k) (x ∷ l) w = (λ q. w .0 (of-take k l q), once-take k l (w .1))
-
-  each-of : (P : A → Type 0) (l : List A) → ((x : A) → x ∈ l → P x) → Each P l
-  each-of P [] h = tt
-  each-of P (x ∷ l) h = (h x (List·Memᴰ·head refl), each-of P l (λ y q. h y (List·Memᴰ·tail q)))
 
 module _ {F : Type 0} (n : ℕ) (G : List (Line F (Row n))) where
   abbrev Irreducible : Row n → Type 0

@@ -16,7 +16,7 @@ use Rattle.monomial.specs.declared.Monomial.{Monomial}
 use Rattle.groebner.specs.Lines.{Line}
 use Rattle.tabtext.specs.Sizes.{most-lines}
 use Rattle.basis.specs.declared.Basis.{Basis}
-use Rattle.reduction.specs.Generators.{linesOf}
+use Rattle.reduction.specs.HeldLines.{linesOf}
 use Rattle.reduction.specs.Leads.{rowsOf}
 use Rattle.reduction.specs.Sound.{Sound}
 use Rattle.reduction.proofs.RowsInTurn.{rows-store}

@@ -1,6 +1,7 @@
 -- The laws of the crate `reduction`.
 -- Places:
 --   Elements            elements of a list by their places
+--   EachElement         what holds of every element of a list
 --   ArrayElements       what the logic knows of each element of an array
 --   ArrayRows           the rows of exponents that arrays of monomials hold
 --   RowsInTurn          the rows of the first monomials of an array, one after the other
@@ -27,6 +28,7 @@
 -- The degrees of check 15:
 --   PowersBelow         the powers of one variable below a monomial
 --   LcmDegree           the least common multiple of two leading monomials has a degree of at most n + 31
+pub mod EachElement
 pub mod Elements
 pub mod ArrayElements
 pub mod ArrayRows

@@ -30,7 +30,8 @@ use Rattle.tabtext.specs.declared.print.Generator.{Generator}
 use Rattle.basis.specs.Checks.{asRow}
 use Rattle.basis.specs.Answers.{basisOf}
 use Rattle.basis.specs.declared.Basis.{Basis}
-use Rattle.reduction.specs.Generators.{generator, generators, linesOf}
+use Rattle.reduction.specs.Generators.{generator, generators}
+use Rattle.reduction.specs.HeldLines.{linesOf}
 use Rattle.reduction.specs.Sound.{coefficientAt, monomialAt, generatorAt, SoundLine}
 use Rattle.reduction.specs.Leads.{rowsOf}
 use Rattle.reduction.proofs.Elements.{element-in, place-of}

@@ -14,7 +14,8 @@ use Rattle.monomial.specs.declared.Monomial.{Monomial}
 use Rattle.tabtext.specs.Printed.{termsOf, termsIn}
 use Rattle.tabtext.specs.declared.print.Generator.{Generator}
 use Rattle.basis.specs.declared.Basis.{Basis}
-use Rattle.reduction.specs.Generators.{generator, linesOf}
+use Rattle.reduction.specs.Generators.{generator}
+use Rattle.reduction.specs.HeldLines.{linesOf}
 use Rattle.reduction.specs.Sound.{coefficientAt, monomialAt, generatorAt, SoundLine, Sound}
 use Rattle.reduction.proofs.ArrayRows.{blank, row-empty, row-at, row-of-terms}
 use Rattle.reduction.proofs.LineElements.{line-at}

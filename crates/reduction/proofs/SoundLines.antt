@@ -26,7 +26,8 @@ use Rattle.tabtext.specs.Text.{Term}
 use Rattle.tabtext.specs.Printed.{termsOf, termsIn}
 use Rattle.tabtext.specs.declared.print.Generator.{Generator}
 use Rattle.basis.specs.declared.Basis.{Basis}
-use Rattle.reduction.specs.Generators.{residue, generator, linesOf}
+use Rattle.reduction.specs.Generators.{residue, generator}
+use Rattle.reduction.specs.HeldLines.{linesOf}
 use Rattle.reduction.specs.Sound.{coefficientAt, monomialAt, generatorAt, SoundLine, Sound}
 use Rattle.reduction.proofs.Elements.{place-of}
 use Rattle.reduction.proofs.ArrayRows.{row-at, rows-length, rows-at}

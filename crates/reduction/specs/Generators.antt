@@ -2,7 +2,6 @@
 --   residue p h x            the residue of x modulo p
 --   generator p h n terms    the line that terms make
 --   generators p h n ls      the lines of a text
---   linesOf h b              the lines that a basis of the code holds
 use Prim.Native.Nat.{ℕ, _<_, _%_}
 use native.Mathlib.Nat.{mod-lt}
 use native.Mathlib.Omega.{arith}
@@ -12,8 +11,6 @@ use Rattle.monomial.specs.Rows.{Row, one}
 use Rattle.groebner.specs.Lines.{Line}
 use Rattle.tabtext.specs.Text.{Term}
 use Rattle.basis.specs.Checks.{asRow}
-use Rattle.basis.specs.Answers.{basisOf}
-use Rattle.basis.specs.declared.Basis.{Basis}
 
 -- The residue of x modulo p.
 unfoldable pub residue : (p : ℕ) → 1 < p → ℕ → ZMod p
@@ -29,8 +26,3 @@ generator p h n (t ∷ ts) = (asRow n (t .1), map (λ u. (residue p h (u .0), as
 unfoldable pub generators : (p : ℕ) → 1 < p → (n : ℕ) → List (List Term) → List (Line (ZMod p) (Row n))
 unfolding generator
 generators p h n ls = map (generator p h n) ls
-
--- The lines that a basis of the code holds.
-unfoldable pub linesOf : (b : Basis) → 1 < b .p → List (Line (ZMod (b .p)) (Row (b .n)))
-unfolding generators basisOf
-linesOf b h = generators (b .p) h (b .n) (basisOf b .generators)

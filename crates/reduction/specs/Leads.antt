@@ -19,7 +19,7 @@ use Rattle.groebner.specs.Polynomials.{_∈_}
 use Rattle.groebner.proofs.Next.{next}
 use Rattle.groebner.proofs.IrreducibleList.{irreducibles}
 use Rattle.basis.specs.declared.Basis.{Basis}
-use Rattle.reduction.specs.Generators.{linesOf}
+use Rattle.reduction.specs.HeldLines.{linesOf}
 
 -- The first monomials of an array.
 unfoldable pub rowsOf : (n : ℕ) → ℕ → List Monomial → List (Row n)

@@ -8,7 +8,7 @@ ghost use Rattle.monomial.specs.Sizes.{«most-variables»};
 ghost use Rattle.monomial.specs.Ordering.{rows};
 ghost use Rattle.monomial.specs.Represented.{row};
 ghost use Rattle.tabtext.specs.Sizes.{«most-terms», «most-lines»};
-ghost use Rattle.reduction.specs.Generators.{linesOf};
+ghost use Rattle.reduction.specs.HeldLines.{linesOf};
 ghost use Rattle.reduction.specs.Leads.{rowsOf, LeadsOf};
 ghost use Rattle.reduction.specs.Places.{DividesTerm, DividedByAnother};
 ghost use Rattle.reduction.specs.Sound.{Sound};

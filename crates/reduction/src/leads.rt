@@ -6,7 +6,7 @@ ghost use lib.ListN.{set};
 ghost use Rattle.monomial.specs.Sizes.{«most-variables»};
 ghost use Rattle.monomial.specs.Represented.{row};
 ghost use Rattle.tabtext.specs.Sizes.{«most-lines»};
-ghost use Rattle.reduction.specs.Generators.{linesOf};
+ghost use Rattle.reduction.specs.HeldLines.{linesOf};
 ghost use Rattle.reduction.specs.Sound.{Sound};
 ghost use Rattle.reduction.specs.Leads.{rowsOf, multiple};
 use basis::Basis;
