@@ -22,8 +22,7 @@ use Rattle.monomial.specs.Sizes.{most-variables, most-exponent}
 use Rattle.monomial.specs.Rows.{Row}
 use Rattle.monomial.specs.Ordering.{Grevlex}
 use Rattle.tabtext.specs.Sizes.{most-lines, most-terms}
-use Rattle.tabtext.specs.Text.{Bytes, bytes, Each, Term, Line, header, generator, standard, points, end, Form}
-use Rattle.tabtext.specs.Printed.{printed}
+use Rattle.tabtext.specs.Text.{Bytes, bytes, Each, Term, Line, header, generator, standard, points, end, Form, printed}
 
 -- What a text holds: p, n, and the terms of its poly lines, which are the lines 2, 3, ..
 pub record Basis : Type 0 where

@@ -4,7 +4,6 @@
 --   termsIn n g            the terms of a line of a basis
 --   generatorOf n g        the line of a basis
 --   standardOf n k ms      the first k of the monomials ms, as a line
---   printed l              a line with its LF
 --   counted w v            the word w and the number v, with LF: a runs line or an end line
 use Prim.Native.Nat.{ℕ}
 use mathlib.Core.List.{List, [], _∷_, _++_, map}
@@ -12,8 +11,9 @@ use lib.ListN.{take}
 use Rattle.residue.specs.declared.Residue.{Residue}
 use Rattle.monomial.specs.declared.Exponent.{Exponent}
 use Rattle.monomial.specs.declared.Monomial.{Monomial}
-use Rattle.tabtext.specs.Text.{Bytes, Term, Line, generator, standard, number, line}
+use Rattle.tabtext.specs.Text.{Bytes, Term, Line, generator, standard, number}
 use Rattle.tabtext.specs.declared.print.Generator.{Generator}
+unfoldable pub use Rattle.tabtext.specs.Text.{printed}
 
 -- The first n exponents of a monomial, as numbers.
 unfoldable pub rowOf : ℕ → Monomial → List ℕ
@@ -40,11 +40,6 @@ generatorOf n g = generator (termsIn n g)
 unfoldable pub standardOf : ℕ → ℕ → List Monomial → Line
 unfolding rowOf
 standardOf n k ms = standard (map (rowOf n) (take k ms))
-
--- A line with its LF.
-unfoldable pub printed : Line → Bytes
-unfolding line
-printed l = line l ++ (10 ∷ [])
 
 -- A word and a number, with LF.
 unfoldable pub counted : Bytes → ℕ → Bytes

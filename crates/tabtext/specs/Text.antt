@@ -7,6 +7,7 @@
 --   part sep fs                fields parted by one separator
 --   exponents e, term t        n exponents parted by dots; coefficient:exponents
 --   fields l, line l           the fields of a line; the line without its LF
+--   printed l                  the line with its LF
 --   text ls                    lines, each ended by LF
 --   Number v, Form n l         the numbers of 1 to 5 digits; the form of a line in n variables
 use Prim.Native.Nat.{ℕ, zero, suc, _+_, _/_, _%_, _≤_, _<_}
@@ -82,6 +83,11 @@ fields (end count) = bytes "end" ∷ number count ∷ []
 unfoldable pub line : Line → Bytes
 unfolding fields part
 line l = part 9 (fields l)
+
+-- A line with its LF.
+unfoldable pub printed : Line → Bytes
+unfolding line
+printed l = line l ++ (10 ∷ [])
 
 -- Lines, each ended by LF.
 unfoldable pub text : List Line → Bytes
