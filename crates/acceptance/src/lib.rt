@@ -21,8 +21,7 @@ use division::grevlex::SPACE;
 use division::pairs::first_failing;
 use monomial::Monomial;
 use multiplication::accept::accept;
-use multiplication::coordinates::Coordinates;
-use multiplication::coordinates::MAX_ROWS;
+use multiplication::coordinates::MAX_CELLS;
 use multiplication::coordinates::Tables;
 use multiplication::sort::by_grevlex;
 use reduction::divided::first_divided;
@@ -50,7 +49,7 @@ fn refused(r: Refusal, line: usize) -> WholeCheck
             monomials: [Monomial::one(); MAX_STANDARD],
         },
         tables: Tables {
-            rows: [Coordinates::zero(); MAX_ROWS],
+            cells: [0; MAX_CELLS],
         },
     }
 }

@@ -3,7 +3,7 @@
 --   adds-dependent    if nothing is left, the opposite of the combination is the answer
 --   room-left         if something is left, there is a row for it
 --   row-scaled        what is left, made one at its first place, is a sound row
---   adds-pivot        the rows cleared at that place, and then that row, are the answer
+--   adds-inserted     the rows cleared at that place, and then that row, are the answer
 use mathlib.Core.Path.{_≡_, refl, sym, _∙_, ap, ap₂, subst}
 use mathlib.Core.List.{List, [], _∷_, _++_, map, map-append}
 use mathlib.Core.Logic.{inl, inr, ⊎-elim}
@@ -26,7 +26,7 @@ use Rattle.multiplication.specs.declared.coordinates.Coordinates.{Coordinates}
 use Rattle.fglm.specs.Vectors.{vector, Represents, multiplied, FirstPlace}
 use Rattle.fglm.specs.RowState.{remainder, reducedRow, noRow, rowAt, state, SoundRow, Sound}
 use Rattle.fglm.specs.Elimination.{inverse, nothing, answer, Room, Adds}
-use Rattle.fglm.specs.Steps.{Scaled, ClearedRow, ClearedRows, LeftOf}
+use Rattle.fglm.specs.Steps.{Scaled, ClearedRow, ClearedRows, Inserted}
 use Rattle.fglm.specs.declared.elimination.Reduced.{Reduced}
 use Rattle.fglm.specs.declared.elimination.Remainder.{Remainder}
 use Rattle.fglm.specs.declared.elimination.Rows.{Rows}
@@ -35,6 +35,7 @@ use Rattle.fglm.specs.declared.vectors.Found.the-variants.{Pivot, Depend
 use Rattle.fglm.proofs.Residues.{residue-below, residue-one, residue-negation}
 use Rattle.fglm.proofs.VectorEntries.{vector-entry}
 use Rattle.fglm.proofs.FirstPlaces.{place, first-of-place}
+use Rattle.fglm.proofs.Reducing.{LeftOf}
 use Rattle.fglm.proofs.ListElimination.{less, scaled, cleared, inserted, chosen, eliminated-first}
 
 -- Two lists of rows that agree row by row.
@@ -114,7 +115,7 @@ module _ (t : Reciprocals) (s : Rows) (v : Coordinates) (x : Remainder) (left : 
         state-grown h = ap (λ n. map (reducedRow p h) (take n (set (s′ .rows) (s .used) q))) (add-one (s .used)) ∙ ap (map (reducedRow p h)) (take-suc-set (s′ .rows) (s .used) q (omega (arith, size′))) ∙ map-append (reducedRow p h) (take (s .used) (s′ .rows)) (q ∷ [])
             ∙ ap (_++ (reducedRow p h q ∷ [])) (map-take (reducedRow p h) (cleared p h (reducedRow p h q)) noRow (s .used) (s′ .rows) (s .rows) (omega (arith, size′)) (omega arith) (λ i l. cleared-is h (rowAt s i) (rowAt s′ i) (clears .rows i l)))
 
-        pub adds-pivot : Adds t s v (record { rows = grown-rows; found = Pivot k; combination = q .combination })
+        adds-pivot : Adds t s v (record { rows = grown-rows; found = Pivot k; combination = q .combination })
         adds-pivot = record {
           sound = sound-grown;
           below = made .combination .below;
@@ -122,3 +123,6 @@ module _ (t : Reciprocals) (s : Rows) (v : Coordinates) (x : Remainder) (left : 
               ap inr (state-grown h ∙ ap (λ r. inserted p h r (state p h s)) (scaled-is h)) ∙ sym (answer-left prime (Pivot k) first);
           grown = (refl, ap (λ (r : Reduced). r .pivot) last-row ∙ made .pivot, ap (λ (r : Reduced). r .combination) (sym last-row));
         }
+
+      pub adds-inserted : (r : Rows) → Inserted p q s r → length (s .rows) ≡ most-standard → Sound p s → s .used < most-standard → Adds t s v (record { rows = r; found = Pivot k; combination = q .combination })
+      adds-inserted r i size sound room = subst (λ z. Adds t s v (record { rows = z; found = Pivot k; combination = q .combination })) (sym (i .is)) (adds-pivot (i .others) (i .cleared) size sound room)

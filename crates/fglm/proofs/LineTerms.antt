@@ -1,15 +1,20 @@
 -- The terms of the line that the code writes for a dependent monomial.
---   less-none, less-more    what `less_term` makes of a line, where the coefficient is zero and where it is not
+--   LessTerm p g c m r      r is the line g less c·m, which comes after the terms of g
+--   less-none, less-more    such lines, where the coefficient is zero and where it is not
+--   Arrays g, arrays-stored  the arrays of a line have most-terms places, also after a store
+--   less-stored             the term is stored, and counted where its coefficient is not zero
 --   FirstTerm, first-term   the line with its first term alone
 --   Writing                 what holds at the head of the loop of `line_of`: the terms of the monomials from place k on are written
 --   writing-start, writing-turn, writing-stop
 use mathlib.Core.Path.{_≡_, sym, _∙_, ap, ap₂, subst}
+use mathlib.Core.Logic.{by-cases}
 use mathlib.Core.List.{List, [], _∷_, _++_, map-append, append-nil, append-assoc}
 use Prim.Native.Nat.{ℕ, suc, _+_, _-_, _≤_, _<_}
 use native.Mathlib.Nat.{mod-eq-of-lt}
+use native.Mathlib.Decide.{ℕ-discrete}
 use native.Mathlib.Omega.{arith}
-use lib.ListN.{length, getD, take, drop, drop-of-length-le}
-use lib.Seq.{drop-cons}
+use lib.ListN.{length, getD, set, take, drop, length-set, drop-of-length-le}
+use lib.Seq.{drop-cons, take-set-le}
 use Rattle.residue.specs.Modular.{negation}
 use Rattle.residue.specs.Field.{Field, ZMod, modulo}
 use Rattle.residue.specs.declared.Residue.{Residue}
@@ -21,7 +26,7 @@ use Rattle.groebner.specs.Polynomials.{Poly}
 use Rattle.groebner.proofs.Modules.{self, opposite-null}
 use Rattle.groebner.proofs.CoefficientRows.{terms}
 use Rattle.groebner.proofs.OrderedTails.{nonzero-term, nonzero-term-cases}
-use Rattle.tabtext.specs.Sizes.{most-standard}
+use Rattle.tabtext.specs.Sizes.{most-standard, most-terms}
 use Rattle.tabtext.specs.Text.{Term, Each}
 use Rattle.tabtext.specs.Printed.{rowOf, termsOf, termsIn}
 use Rattle.tabtext.specs.declared.print.Generator.{Generator}
@@ -29,7 +34,7 @@ use Rattle.basis.specs.Checks.{asRow, Monic}
 use Rattle.basis.specs.Answers.{Held, Longer}
 use Rattle.basis.proofs.ArrayRows.{asRow-rowOf}
 use Rattle.basis.proofs.EachPlace.{each-take, each-append}
-use Rattle.basis.proofs.OneMoreTerm.{held-longer}
+use Rattle.basis.proofs.OneMoreTerm.{terms-take, longer, held-longer}
 use Rattle.reduction.specs.Generators.{residue, generator}
 use Rattle.reduction.specs.declared.irreducible.Irreducibles.{Irreducibles}
 use Rattle.reduction.proofs.ArrayRows.{blank, rows-length, rows-at}
@@ -38,7 +43,7 @@ use Rattle.multiplication.specs.Listed.{listed, listedAt}
 use Rattle.multiplication.specs.declared.coordinates.Coordinates.{Coordinates}
 use Rattle.fglm.specs.Vectors.{vector}
 use Rattle.fglm.specs.Found.{PrintableLine}
-use Rattle.fglm.specs.WrittenLines.{termsAs, LessTerm, WrittenLine}
+use Rattle.fglm.specs.WrittenLines.{termsAs, WrittenLine}
 use Rattle.fglm.proofs.Residues.{residue-zero, residue-one, residue-negation, residue-nonzero}
 use Rattle.fglm.proofs.PlacedTerms.{placed, placed-ordered}
 use Rattle.fglm.proofs.VectorEntries.{Whole, vector-entry, length-vector}
@@ -51,17 +56,48 @@ monic-append : (ts us : List Term) → Monic ts → Monic (ts ++ us)
 monic-append [] us m = absurd m
 monic-append (t ∷ ts) us m = m
 
+-- r is the line g less c·m.
+pub record LessTerm (p : ℕ) (g : Generator) (c : ℕ) (m : Monomial) (r : Generator) : Type 0 where
+  pub count : r .terms ≤ suc (g .terms)
+  pub printable : (n : ℕ) → Held n m → PrintableLine p n g → PrintableLine p n r
+  pub terms : (n : ℕ) (h : 1 < p) (field : Field (modulo p h)) → termsAs p h n (termsIn n r) ≡ termsAs p h n (termsIn n g) ++ nonzero-term field (modulo p h .neg (residue p h c)) (row n m)
+
+-- The arrays of a line have most-terms places.
+pub record Arrays (g : Generator) : Type 0 where
+  pub coefficients : length (g .coefficients) ≡ most-terms
+  pub monomials : length (g .monomials) ≡ most-terms
+
+-- The line g with a term stored after its terms, and t of them counted.
+abbrev stored : Generator → Residue → Monomial → ℕ → Generator
+stored g x m t = record { terms = t; coefficients = set (g .coefficients) (g .terms) x; monomials = set (g .monomials) (g .terms) m }
+
+pub arrays-stored : (g : Generator) (x : Residue) (m : Monomial) (t : ℕ) → Arrays g → Arrays (stored g x m t)
+arrays-stored g x m t w = record { coefficients = length-set (g .coefficients) (g .terms) x ∙ w .coefficients; monomials = length-set (g .monomials) (g .terms) m ∙ w .monomials }
+
 module _ (p : ℕ) (g : Generator) (c : ℕ) (m : Monomial) where
-  pub less-none : c ≡ 0 → LessTerm p g c m g
-  unfolding self
-  less-none e = record {
+  less-none : c ≡ 0 → (x : Residue) → LessTerm p g c m (stored g x m (g .terms))
+  unfolding self termsIn
+  less-none e x = record {
     count = omega arith;
-    printable = λ n k w. w;
-    terms = λ n h field. nonzero-term-cases field (λ f. termsAs p h n (termsIn n g) ≡ termsAs p h n (termsIn n g) ++ f) _ (row n m) (λ z. sym (append-nil _))
+    printable = λ n k w. record {
+      held = (w .held .0, subst (Each (Held n)) (sym monomials) (w .held .1));
+      coefficients = subst (Each _) (sym coefficients) (w .coefficients);
+      monic = subst Monic (sym (same n)) (w .monic);
+    };
+    terms = λ n h field. ap (termsAs p h n) (same n) ∙ nonzero-term-cases field (λ f. termsAs p h n (termsIn n g) ≡ termsAs p h n (termsIn n g) ++ f) _ (row n m) (λ z. sym (append-nil _))
         (λ q. absurd (q (ap (modulo p h .neg) (ap (residue p h) e ∙ residue-zero p h) ∙ opposite-null (self (field .ring)))));
   }
+    where
+      coefficients : take (g .terms) (set (g .coefficients) (g .terms) x) ≡ take (g .terms) (g .coefficients)
+      coefficients = take-set-le (g .terms) (g .coefficients) (g .terms) x (omega arith)
 
-  pub less-more : ¬ (c ≡ 0) → c < p → (r : Generator) (x : Residue) → x .0 ≡ negation p c → Longer g x m r → LessTerm p g c m r
+      monomials : take (g .terms) (set (g .monomials) (g .terms) m) ≡ take (g .terms) (g .monomials)
+      monomials = take-set-le (g .terms) (g .monomials) (g .terms) m (omega arith)
+
+      same : (n : ℕ) → termsIn n (stored g x m (g .terms)) ≡ termsIn n g
+      same n = terms-take n (g .terms) _ _ ∙ ap₂ (termsOf n) coefficients monomials ∙ sym (terms-take n (g .terms) _ _)
+
+  less-more : ¬ (c ≡ 0) → c < p → (r : Generator) (x : Residue) → x .0 ≡ negation p c → Longer g x m r → LessTerm p g c m r
   less-more q l r x e w = record {
     count = omega (arith, w .count);
     printable = λ n k line. record {
@@ -80,6 +116,10 @@ module _ (p : ℕ) (g : Generator) (c : ℕ) (m : Monomial) where
 
       nonzero : (h : 1 < p) → modulo p h .neg (residue p h c) ≡ modulo p h .zero → ⊥
       nonzero h z = let k = residue-nonzero p h (negation p c) (omega (arith, value)) (residue-negation p h c l ∙ z) in omega (arith, value, k)
+
+  pub less-stored : c < p → g .terms < most-terms → Arrays g → (x : Residue) → x .0 ≡ negation p c → (t : ℕ) → (c ≡ 0 → t ≡ g .terms) → (¬ (c ≡ 0) → t ≡ g .terms + 1) → LessTerm p g c m (stored g x m t)
+  less-stored l room w x e t none more = by-cases (ℕ-discrete c 0) (λ q. rw (none q) (less-none q x))
+      (λ q. rw (more q) (less-more q l _ x e (longer g x m room (omega (arith, w .coefficients)) (omega (arith, w .monomials)))))
 
 -- The terms of a line, its first term told.
 generator-of : (p : ℕ) (h : 1 < p) (n : ℕ) (ts : List Term) (x : ZMod p) (m : Row n) (f : Poly (ZMod p) (Row n)) → termsAs p h n ts ≡ (x, m) ∷ f → generator p h n ts ≡ (m, f)

@@ -1,4 +1,5 @@
--- The loop of `reduce`: what is left of v, less one row a turn.
+-- The loop of `add`: what is left of v, less one row a turn.
+--   LeftOf p s v x          x is what the rows s leave of v
 --   Reducing p s v x₀ x i   x is x₀ less the first i rows times v's entries at their pivots
 --   rows-from, no-rows-from the rows from the i-th on
 --   reducing-start          before the first turn
@@ -18,11 +19,17 @@ use Rattle.multiplication.specs.declared.coordinates.Coordinates.{Coordinates}
 use Rattle.fglm.specs.Vectors.{vector, Represents, unitVector}
 use Rattle.fglm.specs.RowState.{remainder, reducedRow, noRow, rowAt, state}
 use Rattle.fglm.specs.Elimination.{reduced, nothing}
-use Rattle.fglm.specs.Steps.{LessRow, LeftOf}
+use Rattle.fglm.specs.Steps.{LessRow}
 use Rattle.fglm.specs.declared.elimination.Remainder.{Remainder}
 use Rattle.fglm.specs.declared.elimination.Rows.{Rows}
 use Rattle.fglm.proofs.VectorEntries.{vector-entry}
 use Rattle.fglm.proofs.ListElimination.{less, reduced-none, reduced-more}
+
+-- x is what the rows s leave of v.
+pub record LeftOf (p : ℕ) (s : Rows) (v : Coordinates) (x : Remainder) : Type 0 where
+  pub row-below : Below p (x .row)
+  pub combination-below : Below p (x .combination)
+  pub left : (h : 1 < p) (field : Field (modulo p h)) → remainder p h x ≡ reduced p h field (nothing p) (state p h s) (record { vector = vector p h v; combination = unitVector p (s .used) h }) (vector p h v)
 
 module _ (p : ℕ) (h : 1 < p) where
   -- The rows from the i-th on.

@@ -6,10 +6,11 @@
 --   Whole w              the vector has most-standard entries, as each of the code has
 --   subtracted-entries   a - c·b, by its entries
 --   multiplied-entries   c·a, by its entries
+--   subtracted-none      a - 0·b is a
 use mathlib.Core.Path.{_≡_, sym, _∙_, ap, ap₂}
 use mathlib.Core.List.{List, map}
-use Prim.Native.Nat.{ℕ, _<_, _≤_}
-use native.Mathlib.Nat.{mod-lt}
+use Prim.Native.Nat.{ℕ, _+_, _-_, _*_, _%_, _<_, _≤_}
+use native.Mathlib.Nat.{add-mul-mod-self-left, mod-eq-of-lt}
 use native.Mathlib.Omega.{arith}
 use lib.ListN.{length, getD, length-map, List·getD-map, List·getD-eq-default}
 use lib.Seq.{ext-getD}
@@ -22,17 +23,12 @@ use Rattle.reduction.specs.Generators.{residue}
 use Rattle.multiplication.specs.Rows.{coordinate, Below}
 use Rattle.multiplication.specs.declared.coordinates.Coordinates.{Coordinates}
 use Rattle.fglm.specs.Vectors.{vector, Represents, subtracted, multiplied}
-use Rattle.fglm.proofs.Residues.{residue-zero, residue-product, residue-difference}
-use Rattle.residue.specs.Modular.{difference, product}
+use Rattle.fglm.proofs.Residues.{residue-zero, residue-times, residue-less}
 
 pub past-end : (w : Coordinates) (k : ℕ) → length (w .c) ≤ k → coordinate w k ≡ 0
 past-end w k l = ap (λ (x : Residue). x .0) (List·getD-eq-default (w .c) (record { 0 = 0 }) l)
 
 module _ (p : ℕ) (h : 1 < p) where
-  below-product : (a b : ℕ) → product p a b < p
-  unfolding product
-  below-product a b = mod-lt _ (omega arith)
-
   pub vector-entry : (w : Coordinates) (k : ℕ) → getD (vector p h w) k (modulo p h .zero) ≡ residue p h (coordinate w k)
   unfolding vector
   vector-entry w k = ap (getD (map (λ x. residue p h (x .0)) (w .c)) k) (sym (residue-zero p h)) ∙ List·getD-map (λ (x : Residue). residue p h (x .0)) (w .c) k (record { 0 = 0 })
@@ -49,13 +45,12 @@ abbrev pub Whole : Coordinates → Type 0
 Whole w = length (w .c) ≡ most-standard
 
 module _ (p : ℕ) (r : Coordinates) (whole : Whole r) (below : Below p r) where
-  pub subtracted-entries : (a b : Coordinates) (c : ℕ) → Whole a → Whole b → Below p a
-      → ((k : ℕ) → k < most-standard → coordinate r k ≡ difference p (coordinate a k) (product p c (coordinate b k))) → Represents p r (subtracted p a c b)
+  pub subtracted-entries : (a b : Coordinates) (c : ℕ) → Whole a → Whole b → c < p
+      → ((k : ℕ) → k < most-standard → coordinate r k ≡ (coordinate a k + (p - c) * coordinate b k) % p) → Represents p r (subtracted p a c b)
   subtracted-entries a b c u v m e = record {
     below = below;
     residues = λ h. vector-is p h r _ (whole ∙ sym (size h)) (λ k l. ap (residue p h) (e k (omega (arith, l, size h)))
-        ∙ residue-difference p h _ _ (m .below k) (below-product p h c (coordinate b k))
-        ∙ ap (λ x. modulo p h .add (residue p h (coordinate a k)) (modulo p h .neg x)) (residue-product p h c (coordinate b k))
+        ∙ residue-less p h (coordinate a k) c (coordinate b k) m
         ∙ sym (entry-subtract (residue-ring p h) (vector p h a) (residue p h c) (vector p h b) k ∙ ap₂ (λ x y. modulo p h .add x (modulo p h .neg (modulo p h .mul (residue p h c) y))) (vector-entry p h a k) (vector-entry p h b k)));
   }
     where
@@ -63,13 +58,19 @@ module _ (p : ℕ) (r : Coordinates) (whole : Whole r) (below : Below p r) where
       size h = length-subtract-same (modulo p h) (vector p h a) (residue p h c) (vector p h b) (length-vector p h a ∙ u ∙ sym (length-vector p h b ∙ v)) ∙ length-vector p h a ∙ u
 
   pub multiplied-entries : (a : Coordinates) (c : ℕ) → Whole a
-      → ((k : ℕ) → k < most-standard → coordinate r k ≡ product p c (coordinate a k)) → Represents p r (multiplied p c a)
+      → ((k : ℕ) → k < most-standard → coordinate r k ≡ c * coordinate a k % p) → Represents p r (multiplied p c a)
   multiplied-entries a c u e = record {
     below = below;
     residues = λ h. vector-is p h r _ (whole ∙ sym (size h)) (λ k l. ap (residue p h) (e k (omega (arith, l, size h)))
-        ∙ residue-product p h c (coordinate a k)
+        ∙ residue-times p h c (coordinate a k)
         ∙ sym (entry-multiply (residue-ring p h) (residue p h c) (vector p h a) k ∙ ap (modulo p h .mul (residue p h c)) (vector-entry p h a k)));
   }
     where
       size : (h : 1 < p) → length (multiplied p c a h) ≡ most-standard
       size h = length-multiply (modulo p h) (residue p h c) (vector p h a) ∙ length-vector p h a ∙ u
+
+pub subtracted-none : (p : ℕ) (a b : Coordinates) (c : ℕ) → Whole a → Whole b → Below p a → c < p → c ≡ 0 → Represents p a (subtracted p a c b)
+subtracted-none p a b c u v m l e = subtracted-entries p a u m a b c u v l (λ k _. sym (same (coordinate a k) (coordinate b k) (m .below k)))
+  where
+    same : (x y : ℕ) → x < p → (x + (p - c) * y) % p ≡ x
+    same x y h = let d : p - c ≡ p = omega arith in rw d (add-mul-mod-self-left x p y ∙ mod-eq-of-lt h)

@@ -1,7 +1,6 @@
 -- The row of a monomial, from the rows of the standard monomials found before.
 --   imageAt f s             the row of the standard monomial at place s
 --   FirstVariable n m r     r is the first variable that divides m, or n where none does
---   Cut w d r               r has the first d coefficients of w, and zeros after them
 --   OneRow n l r            r is one at the place of 1 in the list l, and zero elsewhere
 --   DivisorsFound n l m     m over any of its variables is in the list l
 --   ImageRule               the row of m is that of 1, or comes from that of a standard monomial
@@ -34,11 +33,6 @@ pub record FirstVariable (n : ℕ) (m : Row n) (r : ℕ) : Type 0 where
   pub within : r ≤ n
   pub found : r < n → divides n (variable n r) m ≡ true
   pub first : (k : ℕ) → k < r → divides n (variable n k) m ≡ false
-
--- r has the first d coefficients of w, and zeros after them.
-pub record Cut (w : Coordinates) (d : ℕ) (r : Coordinates) : Type 0 where
-  pub front : (k : ℕ) → k < d → coordinate r k ≡ coordinate w k
-  pub zeros : (k : ℕ) → d ≤ k → coordinate r k ≡ 0
 
 -- r is one at the place of 1 in the list, and zero elsewhere; zero where 1 is not in it.
 pub record OneRow (n : ℕ) (l : Irreducibles) (r : Coordinates) : Type 0 where

@@ -3,18 +3,15 @@
 --   Scaled t x k q             q is x made one at place k, with the pivot k
 --   ClearedRow p q r r′        r′ is the row r cleared at q's pivot
 --   ClearedRows p q s s′       the rows of s′ are those of s cleared at q's pivot
---   LeftOf p s v x             x is what the rows s leave of v
+--   Inserted p q s r           the rows of r are those of s cleared at q's pivot, and then q
 use mathlib.Core.Path.{_≡_}
-use Prim.Native.Nat.{ℕ, _<_}
-use lib.ListN.{length}
-use Rattle.residue.specs.Field.{Field, modulo}
+use Prim.Native.Nat.{ℕ, _+_, _<_}
+use lib.ListN.{length, set}
 use Rattle.residue.specs.Reciprocals.{entry}
 use Rattle.residue.specs.declared.reciprocals.Reciprocals.{Reciprocals}
-use Rattle.multiplication.specs.Rows.{coordinate, Below}
-use Rattle.multiplication.specs.declared.coordinates.Coordinates.{Coordinates}
-use Rattle.fglm.specs.Vectors.{vector, Represents, subtracted, multiplied, unitVector}
-use Rattle.fglm.specs.RowState.{remainder, rowAt, state}
-use Rattle.fglm.specs.Elimination.{reduced, nothing}
+use Rattle.multiplication.specs.Rows.{coordinate}
+use Rattle.fglm.specs.Vectors.{Represents, subtracted, multiplied}
+use Rattle.fglm.specs.RowState.{rowAt}
 use Rattle.fglm.specs.declared.elimination.Reduced.{Reduced}
 use Rattle.fglm.specs.declared.elimination.Remainder.{Remainder}
 use Rattle.fglm.specs.declared.elimination.Rows.{Rows}
@@ -42,8 +39,8 @@ pub record ClearedRows (p : ℕ) (q : Reduced) (s s′ : Rows) : Type 0 where
   pub size : length (s′ .rows) ≡ length (s .rows)
   pub rows : (k : ℕ) → k < s .used → ClearedRow p q (rowAt s k) (rowAt s′ k)
 
--- x is what the rows s leave of v.
-pub record LeftOf (p : ℕ) (s : Rows) (v : Coordinates) (x : Remainder) : Type 0 where
-  pub row-below : Below p (x .row)
-  pub combination-below : Below p (x .combination)
-  pub left : (h : 1 < p) (field : Field (modulo p h)) → remainder p h x ≡ reduced p h field (nothing p) (state p h s) (record { vector = vector p h v; combination = unitVector p (s .used) h }) (vector p h v)
+-- The rows of r are those of s cleared at q's pivot, and then q.
+pub record Inserted (p : ℕ) (q : Reduced) (s r : Rows) : Type 0 where
+  pub others : Rows
+  pub cleared : ClearedRows p q s others
+  pub is : r ≡ record { used = s .used + 1; rows = set (others .rows) (s .used) q }

@@ -1,4 +1,5 @@
 -- Vectors of residues that the code holds, as lists.
+--   word                    one more than the largest number of 16 bits
 --   vector p h w            the coefficients of w as residues
 --   Represents p w l        the coefficients of w are below p, and as residues they are l
 --   subtracted p a c b      a - c·b
@@ -16,6 +17,10 @@ use Rattle.multiplication.specs.Rows.{coordinate, Below}
 use Rattle.multiplication.specs.declared.coordinates.Coordinates.{Coordinates}
 use Rattle.fglm.specs.declared.vectors.Found.{Found}
 use Rattle.fglm.specs.declared.vectors.Found.the-variants.{Pivot, Dependent}
+
+-- One more than the largest number of 16 bits.
+abbrev pub word : ℕ
+word = 65536
 
 -- The coefficients of w as residues.
 unfoldable pub vector : (p : ℕ) → 1 < p → Coordinates → List (ZMod p)

@@ -1,11 +1,10 @@
 -- The line of a monomial that depends on standard monomials, as the code writes it.
 --   termsAs p h n ts         terms of the code as terms of a polynomial
 --   combined p h n l c       Σ c_k·l_k, the combination c of the monomials l
---   LessTerm p g c m r       r is the line g less c·m, which comes after the terms of g
 --   WrittenLine p n m c l r  r is the line m - Σ c_k·l_k, its tail in the order of the monomials l
 use mathlib.Core.Path.{_≡_}
-use mathlib.Core.List.{List, _++_, map}
-use Prim.Native.Nat.{ℕ, suc, _≤_, _<_}
+use mathlib.Core.List.{List, map}
+use Prim.Native.Nat.{ℕ, _<_}
 use Rattle.residue.specs.Field.{Field, ZMod, modulo}
 use Rattle.monomial.specs.Rows.{Row}
 use Rattle.monomial.specs.Ordering.{rows}
@@ -14,12 +13,11 @@ use Rattle.monomial.specs.declared.Monomial.{Monomial}
 use Rattle.groebner.specs.Polynomials.{Poly, negate}
 use Rattle.groebner.specs.Lines.{Once}
 use Rattle.groebner.proofs.CoefficientRows.{terms}
-use Rattle.groebner.proofs.OrderedTails.{nonzero-term, ordered-line}
+use Rattle.groebner.proofs.OrderedTails.{ordered-line}
 use Rattle.tabtext.specs.Text.{Term}
 use Rattle.tabtext.specs.Printed.{termsIn}
 use Rattle.tabtext.specs.declared.print.Generator.{Generator}
 use Rattle.basis.specs.Checks.{asRow}
-use Rattle.basis.specs.Answers.{Held}
 use Rattle.reduction.specs.Generators.{residue, generator}
 use Rattle.reduction.specs.declared.irreducible.Irreducibles.{Irreducibles}
 use Rattle.multiplication.specs.Listed.{listed}
@@ -34,12 +32,6 @@ termsAs p h n ts = map (λ (u : Term). (residue p h (u .0), asRow n (u .1))) ts
 -- The combination c of the monomials l.
 abbrev pub combined : (p : ℕ) → 1 < p → (n : ℕ) → Irreducibles → Coordinates → Poly (ZMod p) (Row n)
 combined p h n l c = terms (listed n l) (vector p h c)
-
--- r is the line g less c·m.
-pub record LessTerm (p : ℕ) (g : Generator) (c : ℕ) (m : Monomial) (r : Generator) : Type 0 where
-  pub count : r .terms ≤ suc (g .terms)
-  pub printable : (n : ℕ) → Held n m → PrintableLine p n g → PrintableLine p n r
-  pub terms : (n : ℕ) (h : 1 < p) (field : Field (modulo p h)) → termsAs p h n (termsIn n r) ≡ termsAs p h n (termsIn n g) ++ nonzero-term field (modulo p h .neg (residue p h c)) (row n m)
 
 -- r is the line m - Σ c_k·l_k, its tail in the order of the monomials l.
 pub record WrittenLine (p n : ℕ) (m : Monomial) (c : Coordinates) (l : Irreducibles) (r : Generator) : Type 0 where

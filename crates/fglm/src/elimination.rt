@@ -7,7 +7,7 @@ ghost use Rattle.tabtext.specs.Sizes.{«most-standard»};
 ghost use Rattle.multiplication.specs.Rows.{coordinate, Below};
 ghost use Rattle.fglm.specs.RowState.{SoundRow, Sound};
 ghost use Rattle.fglm.specs.Elimination.{Room, Adds};
-ghost use Rattle.fglm.specs.Steps.{LessRow, LeftOf, Scaled, ClearedRow, ClearedRows};
+ghost use Rattle.fglm.specs.Steps.{LessRow, Scaled, ClearedRow, Inserted};
 use crate::vectors::Found;
 use crate::vectors::first_nonzero;
 use crate::vectors::multiply;
@@ -46,11 +46,14 @@ pub struct Remainder {
 }
 
 impl Remainder {
-    // Less c times a row.
+    // Less c times a row; nothing is done where c is 0.
     fn less(self, c: Residue, r: Reduced, p: u16) -> Remainder
         requires { ⌜ (1 < p) × (p ≤ largest-modulus) × Below p (self .row) × Below p (self .combination) × (c .0 < p) × SoundRow p r ⌝ }
         ensures { λ x. ⌜ LessRow p self (c .0) r x ⌝ }
     {
+        if c.is_zero() {
+            return self;
+        }
         let row = r.row;
         let combination = r.combination;
         Remainder {
@@ -65,7 +68,7 @@ impl Remainder {
         ensures { λ q. ⌜ Scaled reciprocals self k q ⌝ }
     {
         let row = self.row;
-        let c = reciprocals.of(row.at(k));
+        let c = reciprocals.of(row.c[k]);
         Reduced {
             pivot: k,
             row: multiply(c, row, reciprocals.p),
@@ -82,8 +85,9 @@ impl Reduced {
     {
         let row = self.row;
         let combination = self.combination;
+        let at = q.pivot;
         let x = Remainder { row, combination };
-        let y = x.less(row.at(q.pivot), q, p);
+        let y = x.less(row.c[at], q, p);
         let row = y.row;
         let combination = y.combination;
         Reduced {
@@ -111,11 +115,30 @@ impl Rows {
         }
     }
 
-    // v less each row times v's entry at its pivot, with the combination beside it.
-    fn reduce(self, v: Coordinates, p: u16) -> Remainder
-        requires { ⌜ (1 < p) × (p ≤ largest-modulus) × Sound p self × Below p v ⌝ }
-        ensures { λ x. ⌜ LeftOf p self v x ⌝ }
+    // Each row less the multiple of q that makes it zero at q's pivot, and then q.
+    fn insert(mut self, q: Reduced, p: u16) -> Rows
+        requires { ⌜ (1 < p) × (p ≤ largest-modulus) × Sound p self × SoundRow p q × (self .used < most-standard) ⌝ }
+        ensures { λ r. ⌜ Inserted p q self r ⌝ }
     {
+        let at = self.used;
+        let mut i: usize = 0;
+        while i < at {
+            let r = self.rows[i];
+            self.rows[i] = r.cleared(q, p);
+            i += 1;
+        }
+        self.rows[at] = q;
+        self.used = at + 1;
+        self
+    }
+
+    // The rows with v added. v less each row times v's entry at its pivot is a row of its own, or it is zero
+    // and v is told from the combinations of the vectors before it.
+    pub fn add(self, v: Coordinates, reciprocals: Reciprocals) -> Added
+        requires { ⌜ Modulus (reciprocals .p) × Serves reciprocals × Sound (reciprocals .p) self × Below (reciprocals .p) v × Room reciprocals self v ⌝ }
+        ensures { λ a. ⌜ Adds reciprocals self v a ⌝ }
+    {
+        let p = reciprocals.p;
         let mut x = Remainder {
             row: v,
             combination: unit(self.used, p),
@@ -123,33 +146,10 @@ impl Rows {
         let mut i: usize = 0;
         while i < self.used {
             let r = self.rows[i];
-            x = x.less(v.at(r.pivot), r, p);
+            let at = r.pivot;
+            x = x.less(v.c[at], r, p);
             i += 1;
         }
-        x
-    }
-
-    // Each row less the multiple of q that makes it zero at q's pivot.
-    fn clear_rows(mut self, q: Reduced, p: u16) -> Rows
-        requires { ⌜ (1 < p) × (p ≤ largest-modulus) × Sound p self × SoundRow p q ⌝ }
-        ensures { λ r. ⌜ ClearedRows p q self r ⌝ }
-    {
-        let mut i: usize = 0;
-        while i < self.used {
-            let r = self.rows[i];
-            self.rows[i] = r.cleared(q, p);
-            i += 1;
-        }
-        self
-    }
-
-    // The rows with v added; v is told from the combinations of the vectors before it.
-    pub fn add(mut self, v: Coordinates, reciprocals: Reciprocals) -> Added
-        requires { ⌜ Modulus (reciprocals .p) × Serves reciprocals × Sound (reciprocals .p) self × Below (reciprocals .p) v × Room reciprocals self v ⌝ }
-        ensures { λ a. ⌜ Adds reciprocals self v a ⌝ }
-    {
-        let p = reciprocals.p;
-        let x = self.reduce(v, p);
         let row = x.row;
         let Found::Pivot(k) = first_nonzero(row) else {
             let minus_one = Residue::ONE.neg(p);
@@ -161,12 +161,8 @@ impl Rows {
         };
         let q = x.scaled(k, reciprocals);
         let combination = q.combination;
-        let at = self.used;
-        self = self.clear_rows(q, p);
-        self.rows[at] = q;
-        self.used = at + 1;
         Added {
-            rows: self,
+            rows: self.insert(q, p),
             found: Found::Pivot(k),
             combination,
         }

@@ -57,6 +57,7 @@ pub fn enumerate(
     requires { ⌜ Convertible reciprocals n (take n (ranking .variables)) l t ⌝ }
     ensures { λ r. ⌜ Enumerated reciprocals n (take n (ranking .variables)) l t r ⌝ }
 {
+    let cells = t.cells;
     let mut rows = Rows::none();
     let mut images = Images {
         rows: [Coordinates::zero(); MAX_STANDARD],
@@ -70,7 +71,7 @@ pub fn enumerate(
     };
     while m.found {
         let v = m.monomial;
-        let w = image_of(v, images, standard, t, l, reciprocals.p, n);
+        let w = image_of(&cells, v, images, standard, l, reciprocals.p, n);
         let a = rows.add(w, reciprocals);
         let found = a.found;
         rows = a.rows;

@@ -1,20 +1,20 @@
 // The row of a monomial, from the rows of the standard monomials found before.
+ghost use mathlib.Core.Path.{_≡_};
 ghost use Prim.Native.Nat.{ℕ, _<_, _≤_};
+ghost use lib.ListN.{length};
 ghost use Rattle.residue.specs.Prime.{«largest-modulus»};
 ghost use Rattle.monomial.specs.Sizes.{«most-variables»};
 ghost use Rattle.monomial.specs.Represented.{row};
 ghost use Rattle.tabtext.specs.Sizes.{«most-standard»};
-ghost use Rattle.multiplication.specs.Rows.{Below, AllBelow};
-ghost use Rattle.fglm.specs.ImageRows.{imageAt, FirstVariable, Cut, OneRow, DivisorsFound, ImageRow};
+ghost use Rattle.multiplication.specs.Rows.{«most-cells», Below, tablesOf, AllBelow};
+ghost use Rattle.fglm.specs.ImageRows.{imageAt, FirstVariable, OneRow, DivisorsFound, ImageRow};
 use monomial::Monomial;
 use multiplication::coordinates::Coordinates;
-use multiplication::coordinates::Tables;
 use multiplication::coordinates::apply;
 use multiplication::place::over_variable;
 use multiplication::place::place_of;
 use multiplication::place::variable_divides;
 use reduction::irreducible::Irreducibles;
-use residue::Residue;
 use tabtext::sizes::MAX_STANDARD;
 
 // The rows of the standard monomials, in turn.
@@ -37,20 +37,6 @@ fn first_variable(m: Monomial, n: usize) -> usize
     i
 }
 
-// The first d coefficients, and zeros after them.
-fn cut(w: Coordinates, d: usize) -> Coordinates
-    requires { ⌜ d ≤ most-standard ⌝ }
-    ensures { λ r. ⌜ Cut w d r ⌝ }
-{
-    let mut r = w;
-    let mut k = d;
-    while k < MAX_STANDARD {
-        r.c[k] = Residue::ZERO;
-        k += 1;
-    }
-    r
-}
-
 // The row of 1: zero where 1 is not listed.
 fn one_row(l: Irreducibles, n: usize) -> Coordinates
     requires { ⌜ (n ≤ most-variables) × (l .count ≤ most-standard) ⌝ }
@@ -66,19 +52,20 @@ fn one_row(l: Irreducibles, n: usize) -> Coordinates
 
 // The row of m: that of 1, or x_i times that of a standard monomial.
 pub fn image_of(
+    cells: &[u16],
     m: Monomial,
     found: Images,
     standard: Irreducibles,
-    t: Tables,
     l: Irreducibles,
     p: u16,
     n: usize,
 ) -> Coordinates
     requires { ⌜
-        (n ≤ most-variables) × (l .count ≤ most-standard) × (standard .count ≤ most-standard) × (1 < p) × (p ≤ largest-modulus) × AllBelow p t
+        (length (now cells) ≡ most-cells) × (n ≤ most-variables) × (l .count ≤ most-standard) × (standard .count ≤ most-standard) × (1 < p) × (p ≤ largest-modulus)
+        × AllBelow p (tablesOf (now cells))
         × ((s : ℕ) → s < standard .count → Below p (imageAt found s)) × DivisorsFound n standard (row n m)
         ⌝ }
-    ensures { λ r. ⌜ ImageRow p n m found standard t l r ⌝ }
+    ensures { λ r. ⌜ ImageRow p n m found standard (tablesOf (now (cells .entry))) l r ⌝ }
 {
     let i = first_variable(m, n);
     if n <= i {
@@ -86,5 +73,5 @@ pub fn image_of(
     }
     let b = over_variable(m, i, n);
     let w = found.rows[place_of(standard, b, n)];
-    cut(apply(t, i, w, l.count, p), l.count)
+    apply(cells, i, w, l.count, p)
 }

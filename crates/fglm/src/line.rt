@@ -1,11 +1,12 @@
 // The line of a monomial that depends on standard monomials: the monomial less their combination, greatest term first.
-ghost use Prim.Native.Nat.{_<_, _≤_};
+ghost use mathlib.Core.Path.{_≡_};
+ghost use Prim.Native.Nat.{_+_, _<_, _≤_};
 ghost use lib.ListN.{take};
 ghost use Rattle.tabtext.specs.Sizes.{«most-standard», «most-terms»};
 ghost use Rattle.tabtext.specs.Text.{Each};
 ghost use Rattle.basis.specs.Answers.{Held};
 ghost use Rattle.multiplication.specs.Rows.{Below};
-ghost use Rattle.fglm.specs.WrittenLines.{LessTerm, WrittenLine};
+ghost use Rattle.fglm.specs.WrittenLines.{WrittenLine};
 use basis::generator::empty;
 use basis::generator::with_term;
 use monomial::Monomial;
@@ -14,19 +15,16 @@ use reduction::irreducible::Irreducibles;
 use residue::Residue;
 use tabtext::print::Generator;
 
-// A line less c·m, which comes after its terms; the line as it is where c is 0.
-fn less_term(g: Generator, c: Residue, m: Monomial, p: u16) -> Generator
-    requires { ⌜ (g .terms < most-terms) × (c .0 < p) ⌝ }
-    ensures { λ r. ⌜ LessTerm p g (c .0) m r ⌝ }
+// How many terms there are with one of the coefficient c after them: no more where c is 0.
+fn terms_with(c: Residue, terms: usize) -> usize
+    requires { ⌜ terms < most-terms ⌝ }
+    ensures { λ r. ⌜ (c .0 ≡ 0 → r ≡ terms) × (¬ (c .0 ≡ 0) → r ≡ terms + 1) ⌝ }
 {
-    if c.is_zero() {
-        g
-    } else {
-        with_term(g, c.neg(p), m)
-    }
+    if c.0 == 0 { terms } else { terms + 1 }
 }
 
 // m less the combination of the standard monomials: from the last of these, the greatest, to the first.
+// Each is stored after the terms so far, and counted unless its coefficient is 0.
 pub fn line_of(
     m: Monomial,
     combination: Coordinates,
@@ -41,8 +39,12 @@ pub fn line_of(
     let mut k = standard.count;
     while 0 < k {
         k -= 1;
+        let c = combination.c[k];
         let b = standard.monomials[k];
-        g = less_term(g, combination.at(k), b, p);
+        let at = g.terms;
+        g.coefficients[at] = c.neg(p);
+        g.monomials[at] = b;
+        g.terms = terms_with(c, at);
     }
     g
 }

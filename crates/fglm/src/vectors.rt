@@ -1,8 +1,9 @@
-// Vectors of MAX_STANDARD residues.
-ghost use Prim.Native.Nat.{_<_, _≤_};
+// Vectors of MAX_STANDARD residues. No turn of a loop divides: a product and a shift give the quotient by p, or one less.
+ghost use mathlib.Core.Path.{_≡_};
+ghost use Prim.Native.Nat.{_<_, _≤_, _/_, _%_};
 ghost use Rattle.residue.specs.Prime.{«largest-modulus»};
 ghost use Rattle.multiplication.specs.Rows.{Below};
-ghost use Rattle.fglm.specs.Vectors.{Represents, subtracted, multiplied, unitVector, FirstPlace};
+ghost use Rattle.fglm.specs.Vectors.{word, Represents, subtracted, multiplied, unitVector, FirstPlace};
 use multiplication::coordinates::Coordinates;
 use residue::Residue;
 use tabtext::sizes::MAX_STANDARD;
@@ -13,15 +14,38 @@ pub enum Found {
     Dependent,
 }
 
-// a - c·b
+// One more than the largest u16, which the definitions have as word.
+const WORD: u32 = 65536;
+
+// The quotient of the word by p.
+fn word_over(p: u16) -> u16
+    requires { ⌜ 1 < p ⌝ }
+    ensures { λ r. ⌜ r ≡ word / p ⌝ }
+{
+    (WORD / (p as u32)) as u16
+}
+
+// x modulo p. With the quotient of the word by p, the quotient of x is x · over / word, or one more.
+fn remainder(x: u16, over: u16, p: u16) -> Residue
+    requires { ⌜ (1 < p) × (over ≡ word / p) ⌝ }
+    ensures { λ r. ⌜ (r .0 ≡ x % p) × (r .0 < p) ⌝ }
+{
+    let quotient = ((x as u32) * (over as u32) / WORD) as u16;
+    let r = x - quotient * p;
+    if r < p { Residue(r) } else { Residue(r - p) }
+}
+
+// a - c·b, as a + (p - c)·b
 pub fn subtract_multiple(a: Coordinates, c: Residue, b: Coordinates, p: u16) -> Coordinates
     requires { ⌜ (1 < p) × (p ≤ largest-modulus) × Below p a × (c .0 < p) × Below p b ⌝ }
     ensures { λ r. ⌜ Represents p r (subtracted p a (c .0) b) ⌝ }
 {
+    let over = word_over(p);
+    let minus_c = p - c.0;
     let mut r = a;
     let mut k: usize = 0;
     while k < MAX_STANDARD {
-        r.c[k] = a.at(k).sub(c.mul(b.at(k), p), p);
+        r.c[k] = remainder(a.c[k].0 + minus_c * b.c[k].0, over, p);
         k += 1;
     }
     r
@@ -32,10 +56,11 @@ pub fn multiply(c: Residue, a: Coordinates, p: u16) -> Coordinates
     requires { ⌜ (1 < p) × (p ≤ largest-modulus) × (c .0 < p) × Below p a ⌝ }
     ensures { λ r. ⌜ Represents p r (multiplied p (c .0) a) ⌝ }
 {
+    let over = word_over(p);
     let mut r = a;
     let mut k: usize = 0;
     while k < MAX_STANDARD {
-        r.c[k] = c.mul(a.at(k), p);
+        r.c[k] = remainder(c.0 * a.c[k].0, over, p);
         k += 1;
     }
     r
@@ -59,7 +84,7 @@ pub fn first_nonzero(a: Coordinates) -> Found
 {
     let mut k: usize = 0;
     while k < MAX_STANDARD {
-        if a.at(k).0 != 0 {
+        if a.c[k].0 != 0 {
             return Found::Pivot(k);
         }
         k += 1;

@@ -12,7 +12,7 @@ use Prim.Native.Nat.{ℕ, zero, suc, _+_, _-_, _*_, _≤_, _<_}
 use native.Mathlib.Numerals.{add-one}
 use native.Mathlib.Decide.{ℕ-discrete, decLt}
 use native.Mathlib.Omega.{arith}
-use lib.ListN.{length, getD, set, replicate, length-set, length-replicate, getD-replicate, List·getD-eq-default}
+use lib.ListN.{length, getD, set, replicate, length-set, length-replicate}
 use lib.Seq.{getD-set-same, getD-set-other}
 use Rattle.residue.specs.Field.{modulo}
 use Rattle.residue.proofs.ResidueField.{residue-ring}
@@ -24,9 +24,10 @@ use Rattle.groebner.proofs.Division.{Low}
 use Rattle.groebner.proofs.MultiplicationRows.{Filled}
 use Rattle.tabtext.specs.Sizes.{most-standard}
 use Rattle.basis.specs.declared.Basis.{Basis}
+use Rattle.reduction.specs.Generators.{residue}
 use Rattle.reduction.specs.HeldLines.{linesOf}
 use Rattle.reduction.specs.Sound.{Sound}
-use Rattle.multiplication.specs.Rows.{coordinate, rowAt, Below, AllBelow, coordinatesOf, cellOf}
+use Rattle.multiplication.specs.Rows.{most-cells, rowStart, cellAt, AllBelow, RowPut, coordinatesOf, cellOf}
 use Rattle.multiplication.specs.Listed.{listed, ListsIrreducibles}
 use Rattle.multiplication.specs.Rules.{RowFor}
 use Rattle.multiplication.specs.Cursors.{cursor, Best}
@@ -50,66 +51,56 @@ room-less (a ∷ l) n zero h u = omega arith
 room-less (a ∷ l) n (suc i) h u = omega (arith, room-less l n i (omega arith) u)
 
 pub record Filling (b : Basis) (l : Irreducibles) (t : Tables) (c : Cursors) : Type 0 where
-  pub size : length (t .rows) ≡ most-variables * most-standard
+  pub size : length (t .cells) ≡ most-cells
   pub cursors : length (c .at) ≡ most-variables
   pub below : AllBelow (b .p) t
   pub progress : (h : 1 < b .p) → Progress (modulo (b .p) h) (b .n) (linesOf b h) (listed (b .n) l) (one (b .n)) (Grevlex (b .n)) (cellOf (b .p) h t) (cursor c)
 
-pub filling-none : {b : Basis} {l : Irreducibles} {t : Tables} {c : Cursors} (z : Coordinates) → 0 < b .p → ((k : ℕ) → coordinate z k ≡ 0) → t .rows ≡ replicate 128 z → c .at ≡ replicate 4 0 → Filling b l t c
-filling-none {b} {l} {t} {c} z o zeros e f = record {
-  size = ap length e ∙ length-replicate 128 z;
+pub filling-none : {b : Basis} {l : Irreducibles} {t : Tables} {c : Cursors} → 0 < b .p → t .cells ≡ replicate 4096 0 → c .at ≡ replicate 4 0 → Filling b l t c
+filling-none {b} {l} {t} {c} o e f = record {
+  size = ap length e ∙ length-replicate {A = ℕ} 4096 0;
   cursors = ap length f ∙ length-replicate {A = ℕ} 4 0;
-  below = record { row = λ i s. record { below = λ k. subst (λ (rs : List Coordinates). coordinate (getD rs (i * most-standard + s) (record { c = [] })) k < b .p) (sym e) (at (i * most-standard + s) k) } };
+  below = record { cell = λ q. omega (arith, o, ap (λ (a : List ℕ). getD a q 0) e ∙ zeros-at 4096 q 0) };
   progress = λ h. progress-none (modulo (b .p) h) (b .n) (linesOf b h) (listed (b .n) l) (one (b .n)) (Grevlex (b .n)) (cellOf (b .p) h t) (cursor c)
-      (λ i u. ap (λ (a : List ℕ). getD a i 0) f ∙ none i);
+      (λ i u. ap (λ (a : List ℕ). getD a i 0) f ∙ zeros-at 4 i 0);
 }
-  where
-    none : (i : ℕ) → _≡_ {A = ℕ} (getD (replicate 4 0) i 0) 0
-    none i = zeros-at 4 i 0
-
-    at : (q k : ℕ) → coordinate (getD (replicate 128 z) q (record { c = [] })) k < b .p
-    at q k = by-cases (decLt q 128) (λ u. rw (getD-replicate 128 q z (record { c = [] }) u) (omega (arith, zeros k)))
-        (λ u. rw (List·getD-eq-default (replicate 128 z) (record { c = [] }) {n = q} (omega (arith, length-replicate 128 z))) o)
 
 module _ {b : Basis} {l : Irreducibles} {t : Tables} {c : Cursors} (so-far : Filling b l t c) (sound : Sound b) (irreducibles : ListsIrreducibles b l) (full : l .count ≤ length (l .monomials)) where
   module _ {i : ℕ} (best : Best (b .n) l c i (b .n)) (hi : i < b .n) where
     s : ℕ
     s = cursor c i
 
-    pub place-fits : i * most-standard + cursor c i < most-variables * most-standard
-    place-fits = omega (arith, best .some hi, irreducibles .few, sound .variables .1)
+    pub place-fits : (i < most-variables) × (cursor c i < most-standard)
+    place-fits = (omega (arith, sound .variables .1), omega (arith, best .some hi, irreducibles .few))
 
-    module _ (low : (h : 1 < b .p) → Low (Grevlex (b .n)) (linesOf b h)) (w : Coordinates) (new : RowFor b l t i (cursor c i) w) where
-      t′ : Tables
-      t′ = record { rows = set (t .rows) (i * most-standard + cursor c i) w }
-
+    module _ (low : (h : 1 < b .p) → Low (Grevlex (b .n)) (linesOf b h)) {w : Coordinates} (new : RowFor b l t i (cursor c i) w)
+        {t′ : Tables} (same : length (t′ .cells) ≡ length (t .cells)) (put : RowPut t i (cursor c i) w t′) where
       c′ : Cursors
       c′ = record { at = set (c .at) i (cursor c i + 1) }
 
-      here : rowAt t′ i (cursor c i) ≡ w
-      unfolding t′
-      here = getD-set-same (t .rows) (i * most-standard + cursor c i) w _ (omega (arith, so-far .size, place-fits))
+      there : (j r : ℕ) → ¬ (j * most-standard + r ≡ i * most-standard + cursor c i) → (k : ℕ) → k < most-standard → cellAt t′ j r k ≡ cellAt t j r k
+      there j r q k u = by-cases (decLt (rowStart j r + k) (rowStart i (cursor c i))) (λ v. put .before _ v) (λ v. put .after _ (omega arith))
 
-      there : (j r : ℕ) → ¬ (j * most-standard + r ≡ i * most-standard + cursor c i) → rowAt t′ j r ≡ rowAt t j r
-      unfolding t′
-      there j r q = getD-set-other (t .rows) (i * most-standard + cursor c i) (j * most-standard + r) w _ q
+      below′ : (q : ℕ) → getD (t′ .cells) q 0 < b .p
+      below′ q = by-cases (decLt q (rowStart i (cursor c i))) (λ v. rw (put .before q v) (so-far .below .cell q))
+          (λ v. by-cases (decLt q (rowStart i (cursor c i) + most-standard)) (λ u. inside (q - rowStart i (cursor c i)) (omega arith) (omega arith)) (λ u. rw (put .after q (omega arith)) (so-far .below .cell q)))
+        where
+          inside : (k : ℕ) → k < most-standard → rowStart i (cursor c i) + k ≡ q → getD (t′ .cells) q 0 < b .p
+          inside k u e = subst (λ (a : ℕ). getD (t′ .cells) a 0 < b .p) e (rw (put .here k u) (new .below .below k))
 
-      pub filling-more : Filling b l (record { rows = set (t .rows) (i * most-standard + cursor c i) w }) (record { at = set (c .at) i (cursor c i + 1) })
-      unfolding t′ c′ cellOf
+      pub filling-more : Filling b l t′ (record { at = set (c .at) i (cursor c i + 1) })
+      unfolding c′ cellOf coordinatesOf
       filling-more = record {
-        size = length-set (t .rows) _ w ∙ so-far .size;
+        size = same ∙ so-far .size;
         cursors = length-set (c .at) i _ ∙ so-far .cursors;
-        below = record {
-          row = λ j r. by-cases (ℕ-discrete (j * most-standard + r) (i * most-standard + cursor c i))
-              (λ q. subst (Below (b .p)) (sym here ∙ ap (λ q. getD (t′ .rows) q (record { c = [] })) (sym q)) (new .below)) (λ q. subst (Below (b .p)) (sym (there j r q)) (so-far .below .row j r));
-        };
+        below = record { cell = below′ };
         progress = λ h. progress-more (residue-ring (b .p) h) (b .n) (grevlex-order (b .n)) (linesOf b h) (low h) (listed (b .n) l) (one (b .n))
             (λ k u. listed-irreducible b l irreducibles full h k (omega (arith, listed-length b l irreducibles full h))) (so-far .progress h)
             i (cursor c i) hi (omega (arith, best .some hi, listed-length b l irreducibles full h)) refl
             (best-smaller h (b .n) (linesOf b h) l c i (listed-length b l irreducibles full h) (irreducibles .lists h .rising) best hi)
             (coordinatesOf (b .p) h w) (new .rule h) (cellOf (b .p) h t′)
-            (λ k u. ap (λ x. coordinatesOf (b .p) h x k) here)
-            (λ j r hj hr k u. ap (λ x. coordinatesOf (b .p) h x k) (there j r (λ q. apart h j r hj hr q)))
+            (λ k u. ap (residue (b .p) h) (put .here k (omega (arith, irreducibles .few, listed-length b l irreducibles full h))))
+            (λ j r hj hr k u. ap (residue (b .p) h) (there j r (λ q. apart h j r hj hr q) k (omega (arith, irreducibles .few, listed-length b l irreducibles full h))))
             (cursor c′) (getD-set-same (c .at) i _ 0 (omega (arith, so-far .cursors, sound .variables .1)) ∙ add-one _) (λ j hj q. getD-set-other (c .at) i j _ 0 q);
       }
         where

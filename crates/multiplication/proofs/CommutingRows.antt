@@ -9,17 +9,18 @@ use Rattle.residue.specs.Field.{modulo}
 use Rattle.tabtext.specs.Sizes.{most-standard}
 use Rattle.groebner.proofs.MultiplicationRows.{RowsCommute}
 use Rattle.reduction.specs.Generators.{residue}
-use Rattle.multiplication.specs.Rows.{coordinate, rowAt, coordinatesOf, cellOf, Multiplied, CommuteAt}
+use Rattle.multiplication.specs.Rows.{coordinate, RowOf, coordinatesOf, cellOf, Multiplied, CommuteAt}
 use Rattle.multiplication.specs.declared.coordinates.Coordinates.{Coordinates}
 use Rattle.multiplication.specs.declared.coordinates.Tables.{Tables}
 use Rattle.multiplication.proofs.NaturalSums.{residue-injective}
+use Rattle.multiplication.proofs.RowSums.{multiply-row}
 
-pub commute-iff : {p : ℕ} (h : 1 < p) {t : Tables} {d i j : ℕ} (s : ℕ) {a b : Coordinates} → d ≤ most-standard → Multiplied p t i (rowAt t j s) d a → Multiplied p t j (rowAt t i s) d b
+pub commute-iff : {p : ℕ} (h : 1 < p) {t : Tables} {d i j s : ℕ} {x y a b : Coordinates} → d ≤ most-standard → RowOf t j s x → Multiplied p t i x d a → RowOf t i s y → Multiplied p t j y d b
     → ((k : ℕ) → k < d → coordinate a k ≡ coordinate b k) ↔ CommuteAt p h t d i j s
-unfolding cellOf coordinatesOf
-commute-iff {p} h s {a} {b} l u v = (
-  λ e k m. sym (u .coordinates h k (omega arith)) ∙ ap (residue p h) (e k m) ∙ v .coordinates h k (omega arith),
-  λ e k m. residue-injective p h _ _ (u .below .below k) (v .below .below k) (u .coordinates h k (omega arith) ∙ e k m ∙ sym (v .coordinates h k (omega arith))),
+unfolding coordinatesOf
+commute-iff {p} h {d = d} {i} {j} l q u r v = (
+  λ e k m. sym (u .coordinates h k m ∙ multiply-row q p h d l i k) ∙ ap (residue p h) (e k m) ∙ v .coordinates h k m ∙ multiply-row r p h d l j k,
+  λ e k m. residue-injective p h _ _ (u .below .below k) (v .below .below k) (u .coordinates h k m ∙ multiply-row q p h d l i k ∙ e k m ∙ sym (v .coordinates h k m ∙ multiply-row r p h d l j k)),
 )
 
 pub all-commute : (p : ℕ) (h : 1 < p) (t : Tables) (n d : ℕ)

@@ -1,41 +1,24 @@
 -- Monomials of the code that are equal as rows.
---   divides-back      if a divides b, then b divides a only where they are equal
---   divides-not       if a does not divide b, they are not equal
 --   variable-fits     an exponent of x_i·m fits where that of m has room
 --   product-row, quotient-row   the product of the code holds the product of the rows; the quotient
 --   variable-stored   a store of 1 into the exponents of 1 makes a variable
 use mathlib.Core.Path.{_≡_, sym, _∙_, ap, ap₂}
-use mathlib.Core.Bool.{Bool, true, false, false≢true}
-use mathlib.Core.Logic.{_↔_, by-cases}
+use mathlib.Core.Logic.{by-cases}
 use Prim.Native.Nat.{ℕ, _+_, _<_, _≤_}
 use native.Mathlib.Decide.{ℕ-discrete}
-use native.Mathlib.Nat.{le-refl}
 use native.Mathlib.Omega.{arith}
 use lib.ListN.{length, getD, set}
 use lib.Seq.{getD-set-same, getD-set-other}
 use Rattle.monomial.specs.Sizes.{most-variables, most-entry}
-use Rattle.monomial.specs.Rows.{Row, one, exponent, product, quotient, divides}
+use Rattle.monomial.specs.Rows.{Row, one, exponent, product, quotient}
 use Rattle.monomial.specs.Represented.{row, monomial, exponents}
 use Rattle.monomial.specs.declared.Exponent.{Exponent}
 use Rattle.monomial.specs.declared.Monomial.{Monomial}
-use Rattle.monomial.proofs.Products.{row-extensional, divides-at}
+use Rattle.monomial.proofs.Products.{row-extensional}
 use Rattle.monomial.proofs.Places.{exponent-row, row-monomial}
 use Rattle.groebner.proofs.Variables.{variable}
 use Rattle.groebner.proofs.Powers.{exponent-power, exponent-power-other}
 use Rattle.multiplication.proofs.Storing.{zeros-at}
-
-module _ (n : ℕ) (a b : Row n) where
-  divides-equal : a ≡ b → divides n a b ≡ true
-  divides-equal e = divides-at n a b .1 (λ i h. rw e (le-refl _))
-
-  pub divides-back : {t u : Bool} → t ≡ divides n a b → t ≡ true → u ≡ divides n b a → (u ≡ true) ↔ (a ≡ b)
-  divides-back p q s = (
-    λ e. row-extensional n (λ i h. omega (arith, divides-at n a b .0 (sym p ∙ q) i h, divides-at n b a .0 (sym s ∙ e) i h)),
-    λ e. s ∙ divides-at n b a .1 (λ i h. rw e (le-refl _)),
-  )
-
-  pub divides-not : {t : Bool} → t ≡ divides n a b → t ≡ false → (false ≡ true) ↔ (a ≡ b)
-  divides-not p q = (λ e. absurd (false≢true e), λ e. sym q ∙ p ∙ divides-equal e)
 
 pub variable-stored : (i : ℕ) → i < most-variables → {m : Monomial} → m ≡ monomial most-variables (one most-variables)
     → (n : ℕ) → n ≤ most-variables → i < n → row n (record { e = set (m .e) i (record { 0 = 1 }) }) ≡ variable n i

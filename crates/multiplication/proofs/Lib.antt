@@ -7,8 +7,9 @@
 --   CommutingRows  rows that commute, by their coefficients
 --   RowFilling     the rows of the products x_i·B_s, filled in rising order
 --   EqualMonomials monomials of the code that are equal as rows
+--   KeyPlaces      keys of monomials, and their places
 --   Sought         the loop of `place_of`
---   LeadSought     the loop of `line_of`
+--   LeadSought     the answer of `line_of`
 --   TailTerms      the tail of a line of the code, term by term
 --   Passing        the test of `passes`, and the loop of `variable_through`
 --   RowRules       the three rules for the row of x_i·B_s, by the answers of the code
@@ -31,6 +32,7 @@ pub mod RowSums
 pub mod CommutingRows
 pub mod RowFilling
 pub mod EqualMonomials
+pub mod KeyPlaces
 pub mod Sought
 pub mod LeadSought
 pub mod TailTerms

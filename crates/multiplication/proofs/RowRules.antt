@@ -9,19 +9,20 @@
 --   passes-some          some x_j divides B_s with x_i·B_s / x_j reducible, where x_i·B_s is neither listed nor a leading monomial
 --   divisor-listed       B_s / x_j is listed
 --   row-product          x_j divides B_s, and x_i·B_s / x_j is reducible
+--   comes-through        where x_i·B_s is neither listed nor a leading monomial, it comes through such an x_j
+--   row-made             the row that the code makes is one by the rules
 use mathlib.Core.Path.{_≡_, sym, _∙_, ap, subst}
-use mathlib.Core.Bool.{Bool-discrete, true}
+use mathlib.Core.Bool.{Bool-discrete, true, false}
 use mathlib.Core.List.{List, []}
 use mathlib.Core.Logic.{by-cases, Dec·of-iff}
 use Prim.Native.Nat.{ℕ, _≤_, _<_}
 use native.Mathlib.Decide.{ℕ-discrete, decLt}
 use native.Mathlib.Omega.{arith}
-use lib.ListN.{length}
+use lib.ListN.{length, getD, List·getD-map}
 use Rattle.residue.specs.Field.{ZMod, modulo}
 use Rattle.residue.proofs.ResidueField.{residue-ring}
 use Rattle.monomial.specs.Rows.{Row, one, product, quotient}
 use Rattle.monomial.specs.Ordering.{rows}
-use Rattle.monomial.specs.Represented.{row}
 use Rattle.monomial.proofs.Products.{product-comm, product-assoc, product-quotient, quotient-product, divides-iff}
 use Rattle.monomial.proofs.GrevlexOrder.{grevlex-order}
 use Rattle.groebner.specs.Polynomials.{_∈_, δ}
@@ -37,18 +38,22 @@ use Rattle.tabtext.specs.Printed.{termsIn}
 use Rattle.basis.specs.declared.Basis.{Basis}
 use Rattle.reduction.specs.Generators.{residue, generator}
 use Rattle.reduction.specs.HeldLines.{linesOf}
-use Rattle.reduction.specs.Sound.{Sound, monomialAt, generatorAt}
-use Rattle.multiplication.specs.Rows.{coordinate, indicator, rowAt, coordinatesOf, cellOf, Multiplied}
-use Rattle.multiplication.specs.Listed.{listed, listedAt, Place, TailRow, LineOf, ListsIrreducibles, Passes}
+use Rattle.reduction.specs.Leads.{rowsOf, LeadsOf}
+use Rattle.reduction.specs.Sound.{Sound, generatorAt}
+use Rattle.reduction.specs.declared.leads.Leads.{Leads}
+use Rattle.multiplication.specs.Rows.{coordinate, indicator, RowOf, coordinatesOf, cellOf, Multiplied}
+use Rattle.multiplication.specs.Listed.{listed, listedAt, Place, TailRow, ListsIrreducibles, Passes}
 use Rattle.multiplication.specs.declared.coordinates.Coordinates.{Coordinates}
 use Rattle.multiplication.specs.declared.coordinates.Tables.{Tables}
 use Rattle.reduction.specs.declared.irreducible.Irreducibles.{Irreducibles}
 use Rattle.reduction.proofs.ArrayRows.{rows-length}
 use Rattle.reduction.proofs.LineElements.{lines-length, line-at}
-use Rattle.reduction.proofs.LineLeads.{line-lead}
 use Rattle.multiplication.proofs.UnitRows.{indicator-same, indicator-other}
 use Rattle.multiplication.proofs.NaturalSums.{residue-zero, residue-one}
-use Rattle.multiplication.specs.Rules.{NewRow}
+use Rattle.multiplication.proofs.RowSums.{multiply-row}
+use Rattle.multiplication.specs.declared.fill.LinePlace.{LinePlace}
+use Rattle.multiplication.specs.Rules.{NewRow, RowFor, LineOf, Unlisted, Through, MadeBy, MadeRow}
+use Rattle.multiplication.specs.Rules.MadeBy.{by-unit, by-tail, by-product}
 use Rattle.multiplication.specs.Rules.NewRow.{new-unit, new-tail, new-product}
 
 module _ (b : Basis) (l : Irreducibles) (irreducibles : ListsIrreducibles b l) (full : l .count ≤ length (l .monomials)) (h : 1 < b .p) where
@@ -96,18 +101,15 @@ module _ (b : Basis) (l : Irreducibles) (irreducibles : ListsIrreducibles b l) (
     abbrev pub RuleFor : Coordinates → Type 0
     RuleFor w = NewRow (modulo (b .p) h) n G B (one n) cell i s (coordinatesOf (b .p) h w)
 
-    pub row-unit : {m : Row n} → m ≡ x → (k : ℕ) → Place n B (l .count) m k → k < l .count → (w : Coordinates) → ((j : ℕ) → coordinate w j ≡ indicator j k) → RuleFor w
+    pub row-unit : (k : ℕ) → k < l .count → at k ≡ x → (w : Coordinates) → ((j : ℕ) → coordinate w j ≡ indicator j k) → RuleFor w
     unfolding coordinatesOf
-    row-unit e k q u w c = new-unit (subst (λ m. ¬ Reducible (rows n) G m) here (listed-irreducible k u))
+    row-unit k u here w c = new-unit (subst (λ m. ¬ Reducible (rows n) G m) here (listed-irreducible k u))
         (λ j v. ap (residue (b .p) h) (c j) ∙ by-cases (ℕ-discrete j k)
         (λ p. rw p (ap (residue (b .p) h) (indicator-same k) ∙ residue-one (b .p) h ∙ sym (ap (δ (modulo (b .p) h) (rows n) (at k)) (sym here) ∙ δ-same (residue-ring (b .p) h) (rows n) (at k))))
         (λ p. ap (residue (b .p) h) (indicator-other j k p) ∙ residue-zero (b .p) h
         ∙ sym (δ-other (residue-ring (b .p) h) (rows n) (at j) x (λ f. p (listed-once j k (omega (arith, listed-length)) u (f ∙ sym here))))))
-      where
-        here : at k ≡ x
-        here = q .found u ∙ e
 
-    module _ (sound : Sound b) (lines : b .lines ≤ length (b .generators)) where
+    module _ (lines : b .lines ≤ length (b .generators)) (leads : Leads) (are : LeadsOf b (leads .count) (leads .monomials)) where
       line : ℕ → Line (ZMod (b .p)) (Row n)
       line g = generator (b .p) h n (termsIn n (generatorAt b g))
 
@@ -115,20 +117,22 @@ module _ (b : Basis) (l : Irreducibles) (irreducibles : ListsIrreducibles b l) (
       unfolding line
       line-in g u = subst (λ f. f ∈ G) (line-at b h g u) (at-in G (one n, []) g (omega (arith, lines-length b h lines)))
 
-      line-first : (g : ℕ) → g < b .lines → line g .0 ≡ row n (monomialAt (generatorAt b g) 0)
+      line-first : (g : ℕ) → g < b .lines → getD (rowsOf n (leads .count) (leads .monomials)) g (one n) ≡ line g .0
       unfolding line
-      line-first g u = line-lead (b .p) h n (generatorAt b g) (sound .lines g u)
+      line-first g u = ap (λ (L : List (Row n)). getD L g (one n)) (are .1 h) ∙ List·getD-map (λ (f : Line (ZMod (b .p)) (Row n)). f .0) G g (one n, []) ∙ ap (λ (f : Line (ZMod (b .p)) (Row n)). f .0) (line-at b h g u)
 
-      pub row-tail : {m : Row n} → m ≡ x → (g : ℕ) → LineOf b m g → g < b .lines → {w : Coordinates} → TailRow (b .p) n (generatorAt b g) l w → RuleFor w
-      unfolding line
-      row-tail e g q u t = new-tail (line g) (line-in g u) (sym e ∙ sym (q .found u) ∙ sym (line-first g u)) (λ k v. t .coefficients h k (omega (arith, listed-length)))
+      module _ {r : LinePlace} (place : LineOf n leads x r) where
+        pub row-tail : r .found ≡ true → {w : Coordinates} → TailRow (b .p) n (generatorAt b (r .at)) l w → RuleFor w
+        unfolding line
+        row-tail e t = let u : r .at < b .lines = omega (arith, place .found e .0, are .0) in
+            new-tail (line (r .at)) (line-in (r .at) u) (sym (place .found e .1) ∙ line-first (r .at) u) (λ k v. t .coefficients h k (omega (arith, listed-length)))
 
-      pub no-lead : {m : Row n} → m ≡ x → (g : ℕ) → LineOf b m g → b .lines ≤ g → (f : Line (ZMod (b .p)) (Row n)) → f ∈ G → ¬ (x ≡ f .0)
-      unfolding line
-      no-lead e g q u f p r =
-          let (k, v, d) = place-of (one n, []) p in
-          let v′ : k < b .lines = omega (arith, v, lines-length b h lines) in
-          q .first k (omega arith) (sym (line-first k v′) ∙ ap (λ f. f .0) (sym (line-at b h k v′) ∙ d) ∙ sym r ∙ sym e)
+        pub no-lead : r .found ≡ false → (f : Line (ZMod (b .p)) (Row n)) → f ∈ G → ¬ (x ≡ f .0)
+        unfolding line
+        no-lead e f p q =
+            let (k, v, d) = place-of (one n, []) p in
+            let u : k < b .lines = omega (arith, v, lines-length b h lines) in
+            place .none e k (omega (arith, are .0)) (line-first k u ∙ ap (λ (f : Line (ZMod (b .p)) (Row n)). f .0) (sym (line-at b h k u) ∙ d) ∙ sym q)
 
     pub passes-some : i < n → s < l .count → Reducible (rows n) G x → ((f : Line (ZMod (b .p)) (Row n)) → f ∈ G → ¬ (x ≡ f .0)) → (j : ℕ) × (j < n) × Passes n l (at s) i j
     unfolding rows
@@ -156,13 +160,35 @@ module _ (b : Basis) (l : Irreducibles) (irreducibles : ListsIrreducibles b l) (
     unfolding c rows
     divisor-listed = place-inside t place (λ (g, p, (u, e)). listed-irreducible s hs (g, p, (product n (variable n j) u, taken ∙ ap (product n (variable n j)) e ∙ sym (product-assoc n (variable n j) u (g .0)))))
 
-    pub row-product : j < n → l .count ≤ most-standard → (tables : Tables) (w : Coordinates) → Multiplied (b .p) tables j (rowAt tables i t) (l .count) w → RuleFor (cellOf (b .p) h tables) i s w
-    unfolding c cellOf
-    row-product hj few tables w r = new-product j hj t (omega (arith, listed-length, divisor-listed))
+    pub row-product : j < n → l .count ≤ most-standard → {tables : Tables} {y w : Coordinates} → RowOf tables i t y → Multiplied (b .p) tables j y (l .count) w → RuleFor (cellOf (b .p) h tables) i s w
+    unfolding c
+    row-product hj few {tables} {y} {w} q r = new-product j hj t (omega (arith, listed-length, divisor-listed))
         (taken ∙ ap (product n (variable n j)) (sym here))
         (subst (λ m. Reducible (rows n) G (product n (variable n i) m)) (sym here) (reducible-outside _ (passes .outside)))
         (λ k v. subst (λ d. coordinatesOf (b .p) h w k ≡ multiply (modulo (b .p) h) d (cellOf (b .p) h tables) j (cellOf (b .p) h tables i t) k) (sym listed-length)
-        (r .coordinates h k (omega (arith, listed-length))))
+        (r .coordinates h k (omega (arith, listed-length)) ∙ multiply-row q (b .p) h (l .count) few j k))
       where
         here : at t ≡ quotient n (at s) (variable n j)
         here = place .found divisor-listed
+
+-- The row that the code makes for x_i·B_s, by the place of the line that leads with it.
+module _ (b : Basis) (sound : Sound b) (l : Irreducibles) (irreducibles : ListsIrreducibles b l) (full : l .count ≤ length (l .monomials)) (lines : b .lines ≤ length (b .generators))
+    (leads : Leads) (are : LeadsOf b (leads .count) (leads .monomials)) (tables : Tables) (i s : ℕ) (hi : i < b .n) (hs : s < l .count)
+    {r : LinePlace} (place : LineOf (b .n) leads (product (b .n) (variable (b .n) i) (listedAt (b .n) l s)) r) where
+  above-one : 1 < b .p
+  above-one = sound .modulus .prime .above-one
+
+  pub comes-through : r .found ≡ false → Unlisted (b .n) l i s → Through (b .n) l i s
+  comes-through e out = record {
+    some = passes-some b l irreducibles full above-one (cellOf (b .p) above-one tables) i s hi hs (reducible-outside b l irreducibles full above-one _ out)
+        (no-lead b l irreducibles full above-one (cellOf (b .p) above-one tables) i s lines leads are place e);
+    inside = λ j passes k at. divisor-listed b l irreducibles full above-one i s hs j passes k at;
+  }
+
+  made-rule : (h : 1 < b .p) {w : Coordinates} → MadeBy (b .p) (b .n) (r .found) (generatorAt b (r .at)) l tables i s w → RuleFor b l irreducibles full h (cellOf (b .p) h tables) i s w
+  made-rule h (by-unit k u e c) = row-unit b l irreducibles full h (cellOf (b .p) h tables) i s k u e _ c
+  made-rule h (by-tail e t) = row-tail b l irreducibles full h (cellOf (b .p) h tables) i s lines leads are place e t
+  made-rule h (by-product e q) = row-product b l irreducibles full h i s hs (q .by) (q .passes) (q .at) (q .place) (q .within) (irreducibles .few) (q .is) (q .multiplied)
+
+  pub row-made : {w : Coordinates} → MadeRow (b .p) (b .n) (r .found) (generatorAt b (r .at)) l tables i s w → RowFor b l tables i s w
+  row-made m = record { below = m .below; rule = λ h. made-rule h (m .made) }

@@ -6,7 +6,6 @@
 --   Subtracted              coordinates from which c is subtracted at a place
 --   TailRow p n g l r       r has the coordinates of minus the tail of the line g
 --   Passes n l m i j        x_j divides m, and x_i·m / x_j is not in the list
---   LineOf b m r            r is the first line with the leading monomial m, or the number of lines
 --   ListsIrreducibles b l   the list has the irreducible monomials of the lines of b, in rising grevlex order
 use Prim.Native.Nat.{ℕ, _≤_, _<_}
 use mathlib.Core.Path.{_≡_}
@@ -18,7 +17,6 @@ use Rattle.residue.specs.Field.{modulo}
 use Rattle.monomial.specs.Sizes.{most-entry}
 use Rattle.monomial.specs.Rows.{Row, one, exponent, product, quotient, divides}
 use Rattle.monomial.specs.Ordering.{Grevlex, rows}
-use Rattle.monomial.specs.Represented.{row}
 use Rattle.groebner.specs.Polynomials.{coef}
 use Rattle.groebner.specs.Lines.{Reducible}
 use Rattle.groebner.proofs.Variables.{variable}
@@ -29,7 +27,6 @@ use Rattle.tabtext.specs.declared.print.Generator.{Generator}
 use Rattle.basis.specs.declared.Basis.{Basis}
 use Rattle.reduction.specs.Generators.{generator}
 use Rattle.reduction.specs.HeldLines.{linesOf}
-use Rattle.reduction.specs.Sound.{monomialAt, generatorAt}
 use Rattle.multiplication.specs.Rows.{coordinate, Below, coordinatesOf}
 use Rattle.multiplication.specs.declared.coordinates.Coordinates.{Coordinates}
 use Rattle.reduction.specs.Leads.{rowsOf}
@@ -69,12 +66,6 @@ pub record Subtracted (p count : ℕ) (r : Coordinates) (c at : ℕ) (a : Coordi
 pub record TailRow (p n : ℕ) (g : Generator) (l : Irreducibles) (r : Coordinates) : Type 0 where
   pub below : Below p r
   pub coefficients : (h : 1 < p) (k : ℕ) → k < l .count → coordinatesOf p h r k ≡ modulo p h .neg (coef (modulo p h) (rows n) (generator p h n (termsIn n g) .1) (listedAt n l k))
-
--- r is the first line with the leading monomial m, or the number of lines where there is none.
-pub record LineOf (b : Basis) (m : Row (b .n)) (r : ℕ) : Type 0 where
-  pub within : r ≤ b .lines
-  pub found : r < b .lines → row (b .n) (monomialAt (generatorAt b r) 0) ≡ m
-  pub first : (k : ℕ) → k < r → ¬ (row (b .n) (monomialAt (generatorAt b k) 0) ≡ m)
 
 -- x_j divides m, and x_i·m / x_j is not in the list.
 pub record Passes (n : ℕ) (l : Irreducibles) (m : Row n) (i j : ℕ) : Type 0 where

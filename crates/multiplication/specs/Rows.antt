@@ -1,26 +1,32 @@
 -- Coordinates in the irreducible monomials, and the rows of the products x_i·B_s, as functions.
 --   coordinate w k         coefficient k, as a number
 --   indicator j k          1 where j is k, and 0 elsewhere
---   sumAt a k              sum k, before it is reduced
---   rowAt t i s            the row of x_i·B_s
+--   most-cells             the number of the coefficients of all rows
+--   rowStart i s           the place of the first coefficient of the row of x_i·B_s
+--   cellAt t i s k         coefficient k of that row, as a number
+--   tablesOf cells         the tables that hold these coefficients
 --   Below p w              all coefficients are below p
 --   AllBelow p t           all coefficients of all rows are below p
+--   RowOf t i s w          w is the row of x_i·B_s
+--   RowPut t i s w t′      t′ has the row w for x_i·B_s, and the other rows of t
+--   Fits sums c cells at   c times the coefficients from a place on can be added to the sums
+--   Residues p sums d r    r has the residues of the first d sums, and zeros after them
 --   coordinatesOf p h w    the coefficients as residues
 --   cellOf p h t           coefficient k of the row of x_i·B_s as a residue, a function of i, s and k
 --   Multiplied p t i w d r   r has the coordinates of x_i times what has the coordinates w
 --   CommuteAt p h t d i j s  x_i·(x_j·B_s) and x_j·(x_i·B_s) have the same coordinates
-use Prim.Native.Nat.{ℕ, _+_, _*_, _<_}
+use Prim.Native.Nat.{ℕ, _+_, _*_, _^_, _%_, _<_, _≤_}
 use mathlib.Core.Path.{_≡_}
 use mathlib.Core.Bool.{true, false}
-use mathlib.Core.List.{[]}
+use mathlib.Core.List.{List}
 use lib.ListN.{getD}
 use lib.Dec.{eqb}
 use Rattle.residue.specs.Field.{ZMod, modulo}
+use Rattle.monomial.specs.Sizes.{most-variables}
 use Rattle.tabtext.specs.Sizes.{most-standard}
 use Rattle.groebner.proofs.MultiplicationRows.{multiply}
 use Rattle.reduction.specs.Generators.{residue}
 use Rattle.multiplication.specs.declared.coordinates.Coordinates.{Coordinates}
-use Rattle.multiplication.specs.declared.coordinates.Sums.{Sums}
 use Rattle.multiplication.specs.declared.coordinates.Tables.{Tables}
 
 -- Coefficient k.
@@ -31,13 +37,21 @@ coordinate w k = getD (w .c) k (record { 0 = 0 }) .0
 unfoldable pub indicator : ℕ → ℕ → ℕ
 indicator j k = elim (eqb j k) [ true ↦ 1 | false ↦ 0 ]
 
--- Sum k.
-abbrev pub sumAt : Sums → ℕ → ℕ
-sumAt a k = getD (a .s) k 0
+-- The number of the coefficients of all rows.
+abbrev pub most-cells : ℕ
+most-cells = most-variables * most-standard * most-standard
 
--- The row of x_i·B_s.
-abbrev pub rowAt : Tables → ℕ → ℕ → Coordinates
-rowAt t i s = getD (t .rows) (i * most-standard + s) (record { c = [] })
+-- The place of the first coefficient of the row of x_i·B_s.
+abbrev pub rowStart : ℕ → ℕ → ℕ
+rowStart i s = (i * most-standard + s) * most-standard
+
+-- Coefficient k of that row.
+abbrev pub cellAt : Tables → ℕ → ℕ → ℕ → ℕ
+cellAt t i s k = getD (t .cells) (rowStart i s + k) 0
+
+-- The tables that hold these coefficients.
+abbrev pub tablesOf : List ℕ → Tables
+tablesOf l = record { cells = l }
 
 -- All coefficients are below p.
 pub record Below (p : ℕ) (w : Coordinates) : Type 0 where
@@ -45,7 +59,29 @@ pub record Below (p : ℕ) (w : Coordinates) : Type 0 where
 
 -- All coefficients of all rows are below p.
 pub record AllBelow (p : ℕ) (t : Tables) : Type 0 where
-  pub row : (i s : ℕ) → Below p (rowAt t i s)
+  pub cell : (q : ℕ) → getD (t .cells) q 0 < p
+
+-- w is the row of x_i·B_s.
+pub record RowOf (t : Tables) (i s : ℕ) (w : Coordinates) : Type 0 where
+  pub front : (k : ℕ) → k < most-standard → coordinate w k ≡ cellAt t i s k
+  pub zeros : (k : ℕ) → most-standard ≤ k → coordinate w k ≡ 0
+
+-- t′ has the row w for x_i·B_s, and the other rows of t.
+pub record RowPut (t : Tables) (i s : ℕ) (w : Coordinates) (t′ : Tables) : Type 0 where
+  pub here : (k : ℕ) → k < most-standard → cellAt t′ i s k ≡ coordinate w k
+  pub before : (q : ℕ) → q < rowStart i s → getD (t′ .cells) q 0 ≡ getD (t .cells) q 0
+  pub after : (q : ℕ) → rowStart i s + most-standard ≤ q → getD (t′ .cells) q 0 ≡ getD (t .cells) q 0
+
+-- c times the coefficients from a place on can be added to the sums.
+pub record Fits (sums : List ℕ) (c : ℕ) (cells : List ℕ) (at : ℕ) : Type 0 where
+  pub product : (k : ℕ) → k < most-standard → c * getD cells (at + k) 0 < 2 ^ 16
+  pub sum : (k : ℕ) → k < most-standard → getD sums k 0 < 2 ^ 31
+
+-- r has the residues of the first d sums, and zeros after them.
+pub record Residues (p : ℕ) (sums : List ℕ) (d : ℕ) (r : Coordinates) : Type 0 where
+  pub below : Below p r
+  pub front : (k : ℕ) → k < d → coordinate r k ≡ getD sums k 0 % p
+  pub zeros : (k : ℕ) → d ≤ k → coordinate r k ≡ 0
 
 -- The coefficients as residues.
 unfoldable pub coordinatesOf : (p : ℕ) → 1 < p → Coordinates → ℕ → ZMod p
@@ -54,13 +90,14 @@ coordinatesOf p h w k = residue p h (coordinate w k)
 
 -- Coefficient k of the row of x_i·B_s as a residue.
 unfoldable pub cellOf : (p : ℕ) → 1 < p → Tables → ℕ → ℕ → ℕ → ZMod p
-unfolding coordinatesOf
-cellOf p h t i s k = coordinatesOf p h (rowAt t i s) k
+unfolding residue
+cellOf p h t i s k = residue p h (cellAt t i s k)
 
--- r has the coordinates of x_i times what has the coordinates w, by the first d rows of x_i.
+-- r has the coordinates of x_i times what has the coordinates w, by the first d rows of x_i, and zeros after them.
 pub record Multiplied (p : ℕ) (t : Tables) (i : ℕ) (w : Coordinates) (d : ℕ) (r : Coordinates) : Type 0 where
   pub below : Below p r
-  pub coordinates : (h : 1 < p) (k : ℕ) → k < most-standard → coordinatesOf p h r k ≡ multiply (modulo p h) d (cellOf p h t) i (coordinatesOf p h w) k
+  pub zeros : (k : ℕ) → d ≤ k → coordinate r k ≡ 0
+  pub coordinates : (h : 1 < p) (k : ℕ) → k < d → coordinatesOf p h r k ≡ multiply (modulo p h) d (cellOf p h t) i (coordinatesOf p h w) k
 
 -- x_i·(x_j·B_s) and x_j·(x_i·B_s) have the same coordinates, by the first d rows of each variable.
 abbrev pub CommuteAt : (p : ℕ) → 1 < p → Tables → ℕ → ℕ → ℕ → ℕ → Type 0

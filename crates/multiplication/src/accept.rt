@@ -29,8 +29,9 @@ pub fn accept(b: Basis, l: Irreducibles) -> Accepted
     ensures { λ r. ⌜ Acceptance b l r ⌝ }
 {
     let t = fill(b, l);
+    let cells = t.cells;
     Accepted {
-        groebner: commute(t, b.n, l.count, b.p),
+        groebner: commute(&cells, b.n, l.count, b.p),
         tables: t,
     }
 }

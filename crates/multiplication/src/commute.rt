@@ -3,15 +3,16 @@ ghost use mathlib.Core.Path.{_≡_};
 ghost use mathlib.Core.Bool.{true};
 ghost use mathlib.Core.Logic.{_↔_};
 ghost use Prim.Native.Nat.{ℕ, _<_, _≤_};
+ghost use lib.ListN.{length};
 ghost use Rattle.residue.specs.Prime.{«largest-modulus»};
 ghost use Rattle.residue.specs.Field.{modulo};
 ghost use Rattle.monomial.specs.Sizes.{«most-variables»};
 ghost use Rattle.tabtext.specs.Sizes.{«most-standard»};
 ghost use Rattle.groebner.proofs.MultiplicationRows.{RowsCommute};
-ghost use Rattle.multiplication.specs.Rows.{coordinate, AllBelow, cellOf, CommuteAt};
+ghost use Rattle.multiplication.specs.Rows.{«most-cells», coordinate, tablesOf, AllBelow, cellOf, CommuteAt};
 use crate::coordinates::Coordinates;
-use crate::coordinates::Tables;
 use crate::coordinates::apply;
+use crate::coordinates::row_of;
 
 // Whether the first d coefficients are equal.
 fn same(a: Coordinates, b: Coordinates, d: usize) -> bool
@@ -20,7 +21,9 @@ fn same(a: Coordinates, b: Coordinates, d: usize) -> bool
 {
     let mut k: usize = 0;
     while k < d {
-        if a.at(k).0 != b.at(k).0 {
+        let x = a.c[k];
+        let y = b.c[k];
+        if x.0 != y.0 {
             return false;
         }
         k += 1;
@@ -29,23 +32,23 @@ fn same(a: Coordinates, b: Coordinates, d: usize) -> bool
 }
 
 // Whether x_i·(x_j·B_s) and x_j·(x_i·B_s) have the same coordinates.
-fn commute_at(t: Tables, i: usize, j: usize, s: usize, d: usize, p: u16) -> bool
-    requires { ⌜ (i < most-variables) × (j < most-variables) × (s < d) × (d ≤ most-standard) × (0 < p) × (p ≤ largest-modulus) × AllBelow p t ⌝ }
-    ensures { λ r. ⌜ ((h : 1 < p) → (r ≡ true) ↔ CommuteAt p h t d i j s) ⌝ }
+fn commute_at(cells: &[u16], i: usize, j: usize, s: usize, d: usize, p: u16) -> bool
+    requires { ⌜ (length (now cells) ≡ most-cells) × (i < most-variables) × (j < most-variables) × (s < d) × (d ≤ most-standard) × (0 < p) × (p ≤ largest-modulus) × AllBelow p (tablesOf (now cells)) ⌝ }
+    ensures { λ r. ⌜ ((h : 1 < p) → (r ≡ true) ↔ CommuteAt p h (tablesOf (now (cells .entry))) d i j s) ⌝ }
 {
-    let a = apply(t, i, t.row(j, s), d, p);
-    let b = apply(t, j, t.row(i, s), d, p);
+    let a = apply(cells, i, row_of(cells, j, s), d, p);
+    let b = apply(cells, j, row_of(cells, i, s), d, p);
     same(a, b, d)
 }
 
 // Whether the rows of x_i and x_j commute.
-fn commute_pair(t: Tables, i: usize, j: usize, d: usize, p: u16) -> bool
-    requires { ⌜ (i < most-variables) × (j < most-variables) × (d ≤ most-standard) × (0 < p) × (p ≤ largest-modulus) × AllBelow p t ⌝ }
-    ensures { λ r. ⌜ ((h : 1 < p) → (r ≡ true) ↔ ((s : ℕ) → s < d → CommuteAt p h t d i j s)) ⌝ }
+fn commute_pair(cells: &[u16], i: usize, j: usize, d: usize, p: u16) -> bool
+    requires { ⌜ (length (now cells) ≡ most-cells) × (i < most-variables) × (j < most-variables) × (d ≤ most-standard) × (0 < p) × (p ≤ largest-modulus) × AllBelow p (tablesOf (now cells)) ⌝ }
+    ensures { λ r. ⌜ ((h : 1 < p) → (r ≡ true) ↔ ((s : ℕ) → s < d → CommuteAt p h (tablesOf (now (cells .entry))) d i j s)) ⌝ }
 {
     let mut s: usize = 0;
     while s < d {
-        if !commute_at(t, i, j, s, d, p) {
+        if !commute_at(cells, i, j, s, d, p) {
             return false;
         }
         s += 1;
@@ -54,13 +57,13 @@ fn commute_pair(t: Tables, i: usize, j: usize, d: usize, p: u16) -> bool
 }
 
 // Whether the rows of each variable before x_j commute with those of x_j.
-fn commute_before(t: Tables, j: usize, d: usize, p: u16) -> bool
-    requires { ⌜ (j < most-variables) × (d ≤ most-standard) × (0 < p) × (p ≤ largest-modulus) × AllBelow p t ⌝ }
-    ensures { λ r. ⌜ ((h : 1 < p) → (r ≡ true) ↔ ((i : ℕ) → i < j → (s : ℕ) → s < d → CommuteAt p h t d i j s)) ⌝ }
+fn commute_before(cells: &[u16], j: usize, d: usize, p: u16) -> bool
+    requires { ⌜ (length (now cells) ≡ most-cells) × (j < most-variables) × (d ≤ most-standard) × (0 < p) × (p ≤ largest-modulus) × AllBelow p (tablesOf (now cells)) ⌝ }
+    ensures { λ r. ⌜ ((h : 1 < p) → (r ≡ true) ↔ ((i : ℕ) → i < j → (s : ℕ) → s < d → CommuteAt p h (tablesOf (now (cells .entry))) d i j s)) ⌝ }
 {
     let mut i: usize = 0;
     while i < j {
-        if !commute_pair(t, i, j, d, p) {
+        if !commute_pair(cells, i, j, d, p) {
             return false;
         }
         i += 1;
@@ -69,13 +72,13 @@ fn commute_before(t: Tables, j: usize, d: usize, p: u16) -> bool
 }
 
 // Whether all rows commute.
-pub fn commute(t: Tables, n: usize, d: usize, p: u16) -> bool
-    requires { ⌜ (n ≤ most-variables) × (d ≤ most-standard) × (0 < p) × (p ≤ largest-modulus) × AllBelow p t ⌝ }
-    ensures { λ r. ⌜ ((h : 1 < p) → (r ≡ true) ↔ RowsCommute (modulo p h) n d (cellOf p h t)) ⌝ }
+pub fn commute(cells: &[u16], n: usize, d: usize, p: u16) -> bool
+    requires { ⌜ (length (now cells) ≡ most-cells) × (n ≤ most-variables) × (d ≤ most-standard) × (0 < p) × (p ≤ largest-modulus) × AllBelow p (tablesOf (now cells)) ⌝ }
+    ensures { λ r. ⌜ ((h : 1 < p) → (r ≡ true) ↔ RowsCommute (modulo p h) n d (cellOf p h (tablesOf (now (cells .entry))))) ⌝ }
 {
     let mut j: usize = 0;
     while j < n {
-        if !commute_before(t, j, d, p) {
+        if !commute_before(cells, j, d, p) {
             return false;
         }
         j += 1;

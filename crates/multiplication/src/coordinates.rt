@@ -1,30 +1,26 @@
 // Coordinates in the irreducible monomials, the rows of the products x_i·B_s, and what these rows make of coordinates.
 ghost use mathlib.Core.Path.{_≡_};
-ghost use Prim.Native.Nat.{ℕ, _+_, _*_, _^_, _%_, _<_, _≤_};
+ghost use Prim.Native.Nat.{ℕ, _+_, _*_, _%_, _<_, _≤_};
+ghost use lib.ListN.{length, getD};
 ghost use Rattle.residue.specs.Prime.{«largest-modulus»};
 ghost use Rattle.monomial.specs.Sizes.{«most-variables»};
 ghost use Rattle.tabtext.specs.Sizes.{«most-standard»};
-ghost use Rattle.multiplication.specs.Rows.{coordinate, Below, sumAt, rowAt, AllBelow, indicator, Multiplied};
+ghost use Rattle.multiplication.specs.Rows.{«most-cells», coordinate, Below, rowStart, tablesOf, AllBelow, indicator, RowOf, RowPut, Fits, Residues, Multiplied};
 use monomial::MAX_VARIABLES;
 use residue::Residue;
 use tabtext::sizes::MAX_STANDARD;
 
-// One for each variable and each irreducible monomial.
-pub const MAX_ROWS: usize = MAX_VARIABLES * MAX_STANDARD;
+// The coefficients of all rows: one row for each variable and each irreducible monomial.
+pub const MAX_CELLS: usize = MAX_VARIABLES * MAX_STANDARD * MAX_STANDARD;
 
 // Coefficient k is that of the irreducible monomial B_k.
 pub struct Coordinates {
     pub c: [Residue; MAX_STANDARD],
 }
 
-// Sums of products of residues, not yet reduced.
-pub struct Sums {
-    pub s: [u32; MAX_STANDARD],
-}
-
-// The coordinates of x_i·B_s at place i * MAX_STANDARD + s.
+// Coefficient k of the row of x_i·B_s at place (i * MAX_STANDARD + s) * MAX_STANDARD + k.
 pub struct Tables {
-    pub rows: [Coordinates; MAX_ROWS],
+    pub cells: [u16; MAX_CELLS],
 }
 
 impl Coordinates {
@@ -55,82 +51,98 @@ impl Coordinates {
     }
 }
 
-// The product of two residues, not reduced.
-fn times(a: Residue, b: Residue) -> u32
-    ensures { λ r. ⌜ r ≡ a .0 * b .0 ⌝ }
+// The place of the first coefficient of the row of x_i·B_s.
+fn row_start(i: usize, s: usize) -> usize
+    requires { ⌜ (i < most-variables) × (s < most-standard) ⌝ }
+    ensures { λ r. ⌜ r ≡ rowStart i s ⌝ }
 {
-    (a.0 as u32) * (b.0 as u32)
+    (i * MAX_STANDARD + s) * MAX_STANDARD
 }
 
-// c times a row is added.
-fn add_multiple(mut acc: Sums, c: Residue, row: Coordinates) -> Sums
-    requires { ⌜ ((k : ℕ) → k < most-standard → sumAt acc k + c .0 * coordinate row k < 2 ^ 32) ⌝ }
-    ensures { λ r. ⌜ ((k : ℕ) → k < most-standard → sumAt r k ≡ sumAt acc k + c .0 * coordinate row k) ⌝ }
+// The row of x_i·B_s.
+pub fn row_of(cells: &[u16], i: usize, s: usize) -> Coordinates
+    requires { ⌜ (length (now cells) ≡ most-cells) × (i < most-variables) × (s < most-standard) ⌝ }
+    ensures { λ r. ⌜ RowOf (tablesOf (now (cells .entry))) i s r ⌝ }
 {
+    let at = row_start(i, s);
+    let mut r = Coordinates::zero();
     let mut k: usize = 0;
     while k < MAX_STANDARD {
-        acc.s[k] = acc.s[k] + times(c, row.at(k));
+        r.c[k] = Residue(cells[at + k]);
         k += 1;
     }
-    acc
+    r
 }
 
-impl Sums {
-    fn zero() -> Sums
-        ensures { λ r. ⌜ ((k : ℕ) → sumAt r k ≡ 0) ⌝ }
-    {
-        Sums {
-            s: [0; MAX_STANDARD],
-        }
-    }
-
-    // The residues of the sums.
-    fn reduced(self, p: u16) -> Coordinates
-        requires { ⌜ 0 < p ⌝ }
-        ensures { λ r. ⌜ Below p r × ((k : ℕ) → k < most-standard → coordinate r k ≡ sumAt self k % p) ⌝ }
-    {
-        let mut r = Coordinates::zero();
-        let mut k: usize = 0;
-        while k < MAX_STANDARD {
-            r.c[k] = Residue::of(self.s[k], p);
-            k += 1;
-        }
-        r
-    }
-}
-
-impl Tables {
-    // The row of x_i·B_s.
-    pub fn row(self, i: usize, s: usize) -> Coordinates
-        requires { ⌜ (i < most-variables) × (s < most-standard) ⌝ }
-        ensures { λ r. ⌜ r ≡ rowAt self i s ⌝ }
-    {
-        self.rows[i * MAX_STANDARD + s]
-    }
-}
-
-// c times the row of x_i·B_r is added; nothing is done for c = 0.
-fn add_row(t: Tables, acc: Sums, i: usize, r: usize, c: Residue) -> Sums
-    requires { ⌜ (i < most-variables) × (r < most-standard) × ((k : ℕ) → k < most-standard → sumAt acc k + c .0 * coordinate (rowAt t i r) k < 2 ^ 32) ⌝ }
-    ensures { λ a. ⌜ ((k : ℕ) → k < most-standard → sumAt a k ≡ sumAt acc k + c .0 * coordinate (rowAt t i r) k) ⌝ }
+// The row of x_i·B_s is stored.
+pub fn put_row(cells: &mut [u16], i: usize, s: usize, row: Coordinates)
+    requires { ⌜ (length (now cells) ≡ most-cells) × (i < most-variables) × (s < most-standard) ⌝ }
+    ensures { λ _. ⌜ RowPut (tablesOf (now (cells .entry))) i s row (tablesOf (now (cells .exit))) ⌝ }
 {
-    if c.0 == 0 {
-        acc
-    } else {
-        add_multiple(acc, c, t.row(i, r))
+    let at = row_start(i, s);
+    let mut k: usize = 0;
+    while k < MAX_STANDARD {
+        let c = row.c[k];
+        cells[at + k] = c.0;
+        k += 1;
     }
+}
+
+// c times the coefficients from a place on is added to sums; nothing is done for c = 0.
+fn add_multiple(sums: &mut [u32], c: u16, cells: &[u16], at: usize)
+    requires { ⌜ (length (now sums) ≡ most-standard) × (at + most-standard ≤ length (now cells)) × Fits (now sums) c (now cells) at ⌝ }
+    ensures { λ _. ⌜ ((k : ℕ) → k < most-standard → getD (now (sums .exit)) k 0 ≡ getD (now (sums .entry)) k 0 + c * getD (now (cells .entry)) (at + k) 0) ⌝ }
+{
+    if c == 0 {
+        return;
+    }
+    let mut k: usize = 0;
+    while k < MAX_STANDARD {
+        sums[k] = sums[k] + (c * cells[at + k]) as u32;
+        k += 1;
+    }
+}
+
+// The residue of a number, with no division for one that is below p.
+fn reduced(x: u32, p: u16) -> Residue
+    requires { ⌜ 0 < p ⌝ }
+    ensures { λ r. ⌜ (r .0 ≡ x % p) × (r .0 < p) ⌝ }
+{
+    if x < p as u32 {
+        Residue(x as u16)
+    } else {
+        Residue::of(x, p)
+    }
+}
+
+// The residues of the first d sums, and zeros after them.
+fn residues(sums: &[u32], d: usize, p: u16) -> Coordinates
+    requires { ⌜ (length (now sums) ≡ most-standard) × (d ≤ most-standard) × (0 < p) ⌝ }
+    ensures { λ r. ⌜ Residues p (now (sums .entry)) d r ⌝ }
+{
+    let mut r = Coordinates::zero();
+    let mut k: usize = 0;
+    while k < d {
+        r.c[k] = reduced(sums[k], p);
+        k += 1;
+    }
+    r
 }
 
 // The coordinates of x_i times what has the coordinates w: Σ w(r)·row(i, r) over r < d, reduced once.
-pub fn apply(t: Tables, i: usize, w: Coordinates, d: usize, p: u16) -> Coordinates
-    requires { ⌜ (i < most-variables) × (d ≤ most-standard) × (0 < p) × (p ≤ largest-modulus) × AllBelow p t × Below p w ⌝ }
-    ensures { λ r. ⌜ Multiplied p t i w d r ⌝ }
+pub fn apply(cells: &[u16], i: usize, w: Coordinates, d: usize, p: u16) -> Coordinates
+    requires { ⌜
+        (length (now cells) ≡ most-cells) × (i < most-variables) × (d ≤ most-standard) × (0 < p) × (p ≤ largest-modulus)
+        × AllBelow p (tablesOf (now cells)) × Below p w
+        ⌝ }
+    ensures { λ r. ⌜ Multiplied p (tablesOf (now (cells .entry))) i w d r ⌝ }
 {
-    let mut acc = Sums::zero();
+    let mut sums: [u32; MAX_STANDARD] = [0; MAX_STANDARD];
     let mut r: usize = 0;
     while r < d {
-        acc = add_row(t, acc, i, r, w.at(r));
+        let c = w.c[r];
+        add_multiple(&mut sums, c.0, cells, row_start(i, r));
         r += 1;
     }
-    acc.reduced(p)
+    residues(&sums, d, p)
 }

@@ -1,34 +1,39 @@
 // The rows of the products x_i·B_s, filled in rising grevlex order of these products, B the irreducible monomials.
 ghost use mathlib.Core.Path.{_≡_};
-ghost use mathlib.Core.Bool.{true};
+ghost use mathlib.Core.Bool.{true, false};
 ghost use mathlib.Core.Logic.{_↔_};
 ghost use Prim.Native.Nat.{ℕ, _+_, _≤_, _<_};
+ghost use lib.ListN.{length};
 ghost use Rattle.residue.specs.Prime.{«largest-modulus»};
-ghost use Rattle.residue.specs.Field.{ZMod, modulo};
+ghost use Rattle.residue.specs.Field.{modulo};
 ghost use Rattle.monomial.specs.Sizes.{«most-variables», «most-entry»};
-ghost use Rattle.monomial.specs.Rows.{Row, one, exponent, product};
-ghost use Rattle.monomial.specs.Ordering.{rows, Grevlex};
+ghost use Rattle.monomial.specs.Rows.{one, exponent, product};
+ghost use Rattle.monomial.specs.Ordering.{Grevlex};
 ghost use Rattle.monomial.specs.Represented.{row};
-ghost use Rattle.groebner.specs.Polynomials.{_∈_};
-ghost use Rattle.groebner.specs.Lines.{Line, Reducible};
 ghost use Rattle.groebner.proofs.Division.{Low};
 ghost use Rattle.groebner.proofs.MultiplicationRows.{Filled};
 ghost use Rattle.groebner.proofs.Variables.{variable as «x»};
-ghost use Rattle.tabtext.specs.Sizes.{«most-standard»};
+ghost use Rattle.tabtext.specs.Sizes.{«most-standard», «most-lines»};
 ghost use Rattle.reduction.specs.HeldLines.{linesOf};
 ghost use Rattle.reduction.specs.Sound.{SoundLine, Sound};
-ghost use Rattle.multiplication.specs.Rows.{Below, AllBelow, cellOf};
-ghost use Rattle.multiplication.specs.Rules.{RowFor};
+ghost use Rattle.multiplication.specs.Rows.{«most-cells», Below, tablesOf, AllBelow, cellOf};
+ghost use Rattle.multiplication.specs.Keys.{KeysOf};
+ghost use Rattle.multiplication.specs.Rules.{LeadKeys, LineOf, Unlisted, Through, ProductRow, MadeRow};
 ghost use Rattle.multiplication.specs.Cursors.{cursor, Listing, nextProduct, Best};
-ghost use Rattle.multiplication.specs.Listed.{listed, listedAt, Distinct, ListsIrreducibles, Subtracted, TailRow, LineOf, Passes};
+ghost use Rattle.multiplication.specs.Listed.{listed, listedAt, Distinct, ListsIrreducibles, Subtracted, TailRow, Passes};
 use crate::coordinates::Coordinates;
-use crate::coordinates::MAX_ROWS;
+use crate::coordinates::MAX_CELLS;
 use crate::coordinates::Tables;
 use crate::coordinates::apply;
-use crate::place::equal;
+use crate::coordinates::put_row;
+use crate::coordinates::row_of;
+use crate::keys::key;
+use crate::keys::key_place;
+use crate::keys::put_keys;
+use crate::keys::put_lead_keys;
 use crate::place::listed_at;
 use crate::place::over_variable;
-use crate::place::place_of;
+use crate::place::place_in;
 use crate::place::smaller;
 use crate::place::times_variable;
 use crate::place::variable_divides;
@@ -36,8 +41,10 @@ use basis::Basis;
 use monomial::MAX_VARIABLES;
 use monomial::Monomial;
 use reduction::irreducible::Irreducibles;
+use reduction::leads::Leads;
 use residue::Residue;
 use tabtext::print::Generator;
+use tabtext::sizes::MAX_LINES;
 use tabtext::sizes::MAX_STANDARD;
 
 // c is subtracted at a place below count; nothing is done for any other.
@@ -46,14 +53,15 @@ fn subtract_at(mut r: Coordinates, c: Residue, at: usize, count: usize, p: u16) 
     ensures { λ a. ⌜ Subtracted p count r (c .0) at a ⌝ }
 {
     if at < count {
-        r.c[at] = r.at(at).sub(c, p);
+        let a = r.c[at];
+        r.c[at] = a.sub(c, p);
     }
     r
 }
 
 // Minus the tail of a line: its terms but the first, from the last on.
-fn tail_row(g: Generator, l: Irreducibles, n: usize, p: u16) -> Coordinates
-    requires { ⌜ SoundLine p n g × Distinct n l × (n ≤ most-variables) × (l .count ≤ most-standard) × (p ≤ largest-modulus) ⌝ }
+fn tail_row(keys: &[u64], g: Generator, l: Irreducibles, n: usize, p: u16) -> Coordinates
+    requires { ⌜ KeysOf n (listed n l) (l .count) (now keys) × SoundLine p n g × Distinct n l × (n ≤ most-variables) × (l .count ≤ most-standard) × (p ≤ largest-modulus) ⌝ }
     ensures { λ r. ⌜ TailRow p n g l r ⌝ }
 {
     let mut r = Coordinates::zero();
@@ -62,52 +70,68 @@ fn tail_row(g: Generator, l: Irreducibles, n: usize, p: u16) -> Coordinates
         k -= 1;
         let m = g.monomials[k];
         let c = g.coefficients[k];
-        r = subtract_at(r, c, place_of(l, m, n), l.count, p);
+        r = subtract_at(r, c, place_in(keys, l, m, n), l.count, p);
     }
     r
 }
 
-// The first line with the leading monomial m, or the number of lines.
-fn line_of(b: Basis, m: Monomial) -> usize
-    requires { ⌜ Sound b ⌝ }
-    ensures { λ r. ⌜ LineOf b (row (b .n) m) r ⌝ }
+// The place of a line, or 0 where there is none.
+pub struct LinePlace {
+    pub found: bool,
+    pub at: usize,
+}
+
+// The first line with the leading monomial m, by the keys of these.
+fn line_of(keys: &[u64], leads: Leads, m: Monomial, n: usize) -> LinePlace
+    requires { ⌜ (n ≤ most-variables) × (leads .count ≤ most-lines) × LeadKeys n leads (now keys) ⌝ }
+    ensures { λ r. ⌜ LineOf n leads (row n m) r ⌝ }
 {
-    let mut k: usize = 0;
-    while k < b.lines {
-        let g = b.generators[k];
-        let lead = g.monomials[0];
-        if equal(lead, m, b.n) {
-            return k;
+    let k = key_place(keys, leads.count, key(m, n));
+    if k < leads.count {
+        LinePlace {
+            found: true,
+            at: k,
         }
-        k += 1;
+    } else {
+        LinePlace {
+            found: false,
+            at: 0,
+        }
     }
-    k
+}
+
+// The line with the leading monomial x_i·B_s.
+fn line_for(keys: &[u64], leads: Leads, l: Irreducibles, i: usize, s: usize, n: usize) -> LinePlace
+    requires { ⌜ Listing n l × (leads .count ≤ most-lines) × LeadKeys n leads (now keys) × (i < n) × (s < l .count) ⌝ }
+    ensures { λ r. ⌜ LineOf n leads (product n (x n i) (listedAt n l s)) r ⌝ }
+{
+    line_of(keys, leads, times_variable(listed_at(l, s), i, n), n)
 }
 
 // Whether x_j divides m and x_i·m / x_j is not in the list.
-fn passes(l: Irreducibles, m: Monomial, i: usize, j: usize, n: usize) -> bool
-    requires { ⌜ (n ≤ most-variables) × (l .count ≤ most-standard) × (i < n) × (j < n) × ((k : ℕ) → k < n → exponent n (row n m) k < most-entry) ⌝ }
+fn passes(keys: &[u64], l: Irreducibles, m: Monomial, i: usize, j: usize, n: usize) -> bool
+    requires { ⌜ KeysOf n (listed n l) (l .count) (now keys) × (n ≤ most-variables) × (i < n) × (j < n) × ((k : ℕ) → k < n → exponent n (row n m) k < most-entry) ⌝ }
     ensures { λ r. ⌜ (r ≡ true) ↔ Passes n l (row n m) i j ⌝ }
 {
     if variable_divides(m, j, n) {
         let q = times_variable(over_variable(m, j, n), i, n);
-        place_of(l, q, n) == l.count
+        place_in(keys, l, q, n) == l.count
     } else {
         false
     }
 }
 
 // The first such x_j, of which there is one.
-fn variable_through(l: Irreducibles, m: Monomial, i: usize, n: usize) -> usize
+fn variable_through(keys: &[u64], l: Irreducibles, m: Monomial, i: usize, n: usize) -> usize
     requires { ⌜
-        (n ≤ most-variables) × (l .count ≤ most-standard) × (i < n) × ((k : ℕ) → k < n → exponent n (row n m) k < most-entry)
+        KeysOf n (listed n l) (l .count) (now keys) × (n ≤ most-variables) × (i < n) × ((k : ℕ) → k < n → exponent n (row n m) k < most-entry)
         × ((j : ℕ) × (j < n) × Passes n l (row n m) i j)
         ⌝ }
     ensures { λ r. ⌜ (r < n) × Passes n l (row n m) i r ⌝ }
 {
     let mut j: usize = 0;
     while j < n {
-        if passes(l, m, i, j, n) {
+        if passes(keys, l, m, i, j, n) {
             return j;
         }
         j += 1;
@@ -116,37 +140,45 @@ fn variable_through(l: Irreducibles, m: Monomial, i: usize, n: usize) -> usize
 }
 
 // The row of x_i·B_s, which is neither listed nor a leading monomial: with B_s = x_j·c and x_i·c reducible it is x_j times the row of x_i·c.
-fn product_row(b: Basis, l: Irreducibles, t: Tables, i: usize, s: usize) -> Coordinates
+fn product_row(cells: &[u16], keys: &[u64], l: Irreducibles, i: usize, s: usize, n: usize, p: u16) -> Coordinates
     requires { ⌜
-        Sound b × ListsIrreducibles b l × AllBelow (b .p) t × (i < b .n) × (s < l .count)
-        × ((h : 1 < b .p) → Reducible (rows (b .n)) (linesOf b h) (product (b .n) (x (b .n) i) (listedAt (b .n) l s)))
-        × ((h : 1 < b .p) (g : Line (ZMod (b .p)) (Row (b .n))) → g ∈ linesOf b h → ¬ (product (b .n) (x (b .n) i) (listedAt (b .n) l s) ≡ g .0))
+        (length (now cells) ≡ most-cells) × AllBelow p (tablesOf (now cells)) × KeysOf n (listed n l) (l .count) (now keys) × Listing n l × (0 < p) × (p ≤ largest-modulus) × (i < n) × (s < l .count)
+        × Through n l i s
         ⌝ }
-    ensures { λ r. ⌜ RowFor b l t i s r ⌝ }
+    ensures { λ r. ⌜ ProductRow p n l (tablesOf (now (cells .entry))) i s r ⌝ }
 {
     let m = listed_at(l, s);
-    let j = variable_through(l, m, i, b.n);
-    let c = over_variable(m, j, b.n);
-    let at = place_of(l, c, b.n);
-    apply(t, j, t.row(i, at), l.count, b.p)
+    let j = variable_through(keys, l, m, i, n);
+    let at = place_in(keys, l, over_variable(m, j, n), n);
+    apply(cells, j, row_of(cells, i, at), l.count, p)
 }
 
-// The row of x_i·B_s: a unit row if it is listed, minus a tail if it is a leading monomial, and otherwise a product.
-fn row_for(b: Basis, l: Irreducibles, t: Tables, i: usize, s: usize) -> Coordinates
-    requires { ⌜ Sound b × ListsIrreducibles b l × AllBelow (b .p) t × (i < b .n) × (s < l .count) ⌝ }
-    ensures { λ r. ⌜ RowFor b l t i s r ⌝ }
+// The row of x_i·B_s: minus the tail of the line g if that leads with it, a unit row if it is listed, and otherwise a product.
+fn row_for(
+    cells: &[u16],
+    keys: &[u64],
+    leads: bool,
+    g: Generator,
+    l: Irreducibles,
+    i: usize,
+    s: usize,
+    n: usize,
+    p: u16,
+) -> Coordinates
+    requires { ⌜
+        (length (now cells) ≡ most-cells) × AllBelow p (tablesOf (now cells)) × KeysOf n (listed n l) (l .count) (now keys) × Listing n l × Distinct n l × (1 < p) × (p ≤ largest-modulus) × (i < n) × (s < l .count)
+        × (leads ≡ true → SoundLine p n g) × (leads ≡ false → Unlisted n l i s → Through n l i s)
+        ⌝ }
+    ensures { λ r. ⌜ MadeRow p n leads g l (tablesOf (now (cells .entry))) i s r ⌝ }
 {
-    let m = times_variable(listed_at(l, s), i, b.n);
-    let k = place_of(l, m, b.n);
+    if leads {
+        return tail_row(keys, g, l, n, p);
+    }
+    let k = place_in(keys, l, times_variable(listed_at(l, s), i, n), n);
     if k < l.count {
         return Coordinates::unit(k);
     }
-    let g = line_of(b, m);
-    if g < b.lines {
-        let line = b.generators[g];
-        return tail_row(line, l, b.n, b.p);
-    }
-    product_row(b, l, t, i, s)
+    product_row(cells, keys, l, i, s, n, p)
 }
 
 // For each variable x_i the number of its rows that are filled.
@@ -201,18 +233,27 @@ pub fn fill(b: Basis, l: Irreducibles) -> Tables
     requires { ⌜ Sound b × ListsIrreducibles b l × ((h : 1 < b .p) → Low (Grevlex (b .n)) (linesOf b h)) ⌝ }
     ensures { λ r. ⌜ AllBelow (b .p) r × ((h : 1 < b .p) (i : ℕ) → i < b .n → (s : ℕ) → s < l .count → Filled (modulo (b .p) h) (b .n) (linesOf b h) (listed (b .n) l) (one (b .n)) (cellOf (b .p) h r) i s) ⌝ }
 {
-    let mut t = Tables {
-        rows: [Coordinates::zero(); MAX_ROWS],
-    };
+    let mut cells: [u16; MAX_CELLS] = [0; MAX_CELLS];
     let mut c = Cursors {
         at: [0; MAX_VARIABLES],
     };
+    let mut keys: [u64; MAX_STANDARD] = [0; MAX_STANDARD];
+    put_keys(&mut keys, l, b.n);
+    let leads = Leads::of(b);
+    let mut lead_keys: [u64; MAX_LINES] = [0; MAX_LINES];
+    put_lead_keys(&mut lead_keys, leads, b.n);
     let mut i = smallest(l, c, b.n);
     while i < b.n {
         let s = c.at[i];
-        t.rows[i * MAX_STANDARD + s] = row_for(b, l, t, i, s);
+        let found = line_for(&lead_keys, leads, l, i, s, b.n);
+        let k = found.at;
+        let g = b.generators[k];
+        let row = row_for(&cells, &keys, found.found, g, l, i, s, b.n, b.p);
+        put_row(&mut cells, i, s, row);
         c.at[i] = s + 1;
         i = smallest(l, c, b.n);
     }
-    t
+    Tables {
+        cells,
+    }
 }

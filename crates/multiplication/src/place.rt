@@ -9,22 +9,21 @@ ghost use Rattle.monomial.specs.Ordering.{Grevlex};
 ghost use Rattle.monomial.specs.Represented.{row};
 ghost use Rattle.tabtext.specs.Sizes.{«most-standard»};
 ghost use Rattle.groebner.proofs.Variables.{variable as «x»};
+ghost use Rattle.multiplication.specs.Keys.{KeysOf};
 ghost use Rattle.multiplication.specs.Listed.{listed, listedAt, Place};
+use crate::keys::key;
+use crate::keys::key_place;
 use monomial::Exponent;
 use monomial::Monomial;
 use monomial::order::Comparison;
 use reduction::irreducible::Irreducibles;
 
-// Whether the monomials are equal: each divides the other.
+// Whether the monomials are equal.
 pub fn equal(a: Monomial, b: Monomial, n: usize) -> bool
     requires { ⌜ n ≤ most-variables ⌝ }
     ensures { λ r. ⌜ (r ≡ true) ↔ (row n a ≡ row n b) ⌝ }
 {
-    if a.divides(b, n) {
-        b.divides(a, n)
-    } else {
-        false
-    }
+    key(a, n) == key(b, n)
 }
 
 // Whether a is smaller than b in grevlex.
@@ -87,6 +86,14 @@ pub fn place_of(l: Irreducibles, m: Monomial, n: usize) -> usize
         k += 1;
     }
     k
+}
+
+// The same, by the keys of the list.
+pub fn place_in(keys: &[u64], l: Irreducibles, m: Monomial, n: usize) -> usize
+    requires { ⌜ (n ≤ most-variables) × KeysOf n (listed n l) (l .count) (now keys) ⌝ }
+    ensures { λ r. ⌜ Place n (listed n l) (l .count) (row n m) r ⌝ }
+{
+    key_place(keys, l.count, key(m, n))
 }
 
 // Monomial k of the list.

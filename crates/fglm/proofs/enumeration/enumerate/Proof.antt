@@ -1,6 +1,6 @@
 -- `enumerate` meets its contract. The loop's invariant: the state stands for lines and standard monomials of the theory, and m is the next to visit.
 use Prim.Native.Nat.{_+_, _*_, _-_}
-use mathlib.Core.Path.{_≡_, refl, subst}
+use mathlib.Core.Path.{_≡_, refl, sym, subst}
 use mathlib.Core.Bool.{true}
 use mathlib.Core.List.{List}
 use native.Mathlib.Omega.{arith}
@@ -12,6 +12,7 @@ use Rattle.reduction.specs.declared.irreducible.Irreducibles.{Irreducibles}
 use Rattle.reduction.specs.declared.leads.Leads.{Leads}
 use Rattle.reduction.proofs.ArrayRows.{rows-length}
 use Rattle.reduction.proofs.Elements.{length-mapped}
+use Rattle.multiplication.specs.Rows.{most-cells, tablesOf}
 use Rattle.multiplication.specs.Listed.{listed}
 use Rattle.fglm.specs.Enumerable.{Convertible}
 use Rattle.fglm.specs.declared.elimination.Rows.{Rows}
@@ -22,19 +23,22 @@ use Rattle.fglm.proofs.enumeration.enumerate.Statement.{statement}
 use Rattle.fglm.proofs.enumeration.enumerate.Tie as tie
 
 abbrev Inv-loop : tie.InvT-loop
-Inv-loop l t ranking reciprocals n rows₀ images₀ standard₀ leads₀ generators₀ m₀ rows images standard leads generators m =
-    (given : Convertible reciprocals n (take n (ranking .variables)) l t) × (size : length (listed n l) ≡ l .count) × Enumerating reciprocals n (take n (ranking .variables)) l t given size rows images standard leads generators (m .found) (m .monomial)
+Inv-loop l ranking reciprocals n cells rows₀ images₀ standard₀ leads₀ generators₀ m₀ rows images standard leads generators m =
+    (given : Convertible reciprocals n (take n (ranking .variables)) l (tablesOf cells)) × (size : length (listed n l) ≡ l .count) × Enumerating reciprocals n (take n (ranking .variables)) l (tablesOf cells) given size rows images standard leads generators (m .found) (m .monomial)
 
 abbrev μ-loop : tie.MeasureT-loop
-μ-loop l t ranking reciprocals n rows₀ images₀ standard₀ leads₀ generators₀ m₀ rows images standard leads generators m = n * most-standard + 1 - (leads .count + standard .count)
+μ-loop l ranking reciprocals n cells rows₀ images₀ standard₀ leads₀ generators₀ m₀ rows images standard leads generators m = n * most-standard + 1 - (leads .count + standard .count)
 
 size : (c : tie.Start Inv-loop μ-loop) → length (listed (c .args .n) (c .args .l)) ≡ c .args .l .count
 size c =
     let e : length (c .args .l .monomials) ≡ most-standard = search (length-mapped, needs) in
     rows-length _ _ (c .args .l .monomials) (omega (arith, c .pre .few))
 
+cells-size : (c : tie.Start Inv-loop μ-loop) → length (c .args .t .cells) ≡ most-cells
+cells-size c = search needs
+
 abbrev origin : tie.At-loop Inv-loop μ-loop → tie.Start Inv-loop μ-loop
-origin c = c .before .before .before .before .before .before .before
+origin c = c .before .before .before .before .before .before .before .before
 
 -- The monomial to visit.
 head : (c : tie.In-loop Inv-loop μ-loop) → let a = origin (c .before) .args in let x = c .before .loop in
@@ -52,16 +56,16 @@ Visited i rs images standard ls gs = let a = origin (i .before) .args in let x =
     VisitedOnce (a .reciprocals) (a .n) (take (a .n) (a .ranking .variables)) (a .l) (a .t) (x .inv .0) (x .inv .1) (x .leads .count + x .standard .count) rs images standard ls gs (x .m .monomial)
 
 -- A line is written.
-line : (c : tie.After-push Inv-loop μ-loop) → let d = c .before .before .before .before .before in let x = d .before .before .before .before .loop in
-    Visited (d .before .before .before) (d .add .result .rows) (x .images) (x .standard) (c .push .result) (set (x .generators) (x .leads .count) (c .before .line-of .result))
+line : (c : tie.After-push Inv-loop μ-loop) → let d = c .before .before .before .before .before in let x = d .before .before .before .before .before .loop in
+    Visited (d .before .before .before .before) (d .add .result .rows) (x .images) (x .standard) (c .push .result) (set (x .generators) (x .leads .count) (c .before .line-of .result))
 line c = let d = c .before .before .before .before .before in
-    after-line _ _ _ _ _ _ _ (head (d .before .before .before)) (whole (d .before)) (d .before .image-of .ensures) (d .add .ensures) (c .before .before .enum-told2 .given .1) (c .before .line-of .ensures) (c .push .ensures) refl
+    after-line _ _ _ _ _ _ _ (head (d .before .before .before .before)) (whole (d .before)) (d .before .image-of .ensures) (d .add .ensures) (c .before .before .enum-told2 .given .1) (c .before .line-of .ensures) (c .push .ensures) refl
 
 -- There is one standard monomial more.
-standard : (c : tie.After-pushed Inv-loop μ-loop) → let d = c .before .before .before .before in let x = d .before .before .before .before .loop in
-    Visited (d .before .before .before) (d .add .result .rows) (record { rows = set (x .images .rows) (x .standard .count) (d .before .image-of .result) }) (c .pushed .result) (x .leads) (x .generators)
+standard : (c : tie.After-pushed Inv-loop μ-loop) → let d = c .before .before .before .before in let x = d .before .before .before .before .before .loop in
+    Visited (d .before .before .before .before) (d .add .result .rows) (record { rows = set (x .images .rows) (x .standard .count) (d .before .image-of .result) }) (c .pushed .result) (x .leads) (x .generators)
 standard c = let d = c .before .before .before .before in
-    after-standard _ _ _ _ _ _ _ (head (d .before .before .before)) (whole (d .before)) (d .before .image-of .ensures) (d .add .ensures) (c .before .enum-told .given .1) refl (c .pushed .ensures)
+    after-standard _ _ _ _ _ _ _ (head (d .before .before .before .before)) (whole (d .before)) (d .before .image-of .ensures) (d .add .ensures) (c .before .enum-told .given .1) refl (c .pushed .ensures)
 
 none-requires : tie.Need-none-requires Inv-loop μ-loop
 none-requires c κs = search needs
@@ -85,21 +89,24 @@ loop-holds : tie.Need-loop-holds Inv-loop μ-loop
 loop-holds c =
     let standard = c .before .before .before .no-monomials in
     let leads = c .before .before .none2 in
-    let a = c .before .before .before .before .before .before in (
+    let a = c .before .before .before .before .before .before .before in (
       a .pre,
       size a,
       enumerating-start _ _ _ _ _ (a .pre) (size a) _ _ _ _ _ _ (c .before .before .before .before .before .none .ensures) (standard .ensures) (leads .ensures) refl (search (standard .ok, length-mapped, needs)) (search (leads .ok, length-mapped, needs)) refl (c .one .ensures),
     )
 
+slice-aggregate-image-of : tie.Need-slice-aggregate-image-of Inv-loop μ-loop
+slice-aggregate-image-of c = sym (cells-size (origin (c .before .before .before)))
+
 image-of-requires : tie.Need-image-of-requires Inv-loop μ-loop
 image-of-requires c κs =
-    let i = c .before in
+    let i = c .before .before in
     let g = i .before .loop .inv .0 in
-    (g .variables, g .few, standard-few _ _ _ _ _ _ _ (head i), g .modulus .prime .above-one, g .modulus .size, g .below, head i .kept .images-below, next-found _ _ _ _ _ _ _ (head i))
+    (cells-size (origin (i .before)), g .variables, g .few, standard-few _ _ _ _ _ _ _ (head i), g .modulus .prime .above-one, g .modulus .size, g .below, head i .kept .images-below, next-found _ _ _ _ _ _ _ (head i))
 
 add-requires : tie.Need-add-requires Inv-loop μ-loop
 add-requires c κs =
-    let i = c .before .before in
+    let i = c .before .before .before in
     let g = i .before .loop .inv .0 in
     (g .modulus, g .serves, head i .kept .sound, c .image-of .ensures .below, visit-room _ _ _ _ _ _ _ (head i) (whole c) (c .image-of .ensures))
 
@@ -111,53 +118,53 @@ enum-told-2 c = search needs
 
 line-of-requires : tie.Need-line-of-requires Inv-loop μ-loop
 line-of-requires c κs =
-    let d = c .before .before .before in let i = d .before .before .before in
+    let d = c .before .before .before in let i = d .before .before .before .before in
     (i .before .loop .inv .0 .modulus .prime .above-one, standard-few _ _ _ _ _ _ _ (head i), d .add .ensures .below, head i .held, head i .kept .standard-held)
 
 mul-generators : tie.Need-mul-generators Inv-loop μ-loop
-mul-generators c = let i = c .before .before .before .before .before .before .before in omega (arith, next-lines _ _ _ _ _ _ _ (head i))
+mul-generators c = let i = c .before .before .before .before .before .before .before .before in omega (arith, next-lines _ _ _ _ _ _ _ (head i))
 
 array-set-from-generators : tie.Need-array-set-from-generators Inv-loop μ-loop
-array-set-from-generators c = let i = c .before .before .before .before .before .before .before in next-lines _ _ _ _ _ _ _ (head i)
+array-set-from-generators c = let i = c .before .before .before .before .before .before .before .before in next-lines _ _ _ _ _ _ _ (head i)
 
 push-requires : tie.Need-push-requires Inv-loop μ-loop
-push-requires c κs = let i = c .before .before .before .before .before .before .before in next-lines _ _ _ _ _ _ _ (head i)
+push-requires c κs = let i = c .before .before .before .before .before .before .before .before in next-lines _ _ _ _ _ _ _ (head i)
 
 next-requires : tie.Need-next-requires Inv-loop μ-loop
 next-requires c κs =
-    let i = c .before .before .before .before .before .before .before .before in
+    let i = c .before .before .before .before .before .before .before .before .before in
     let g = i .before .loop .inv .0 in
     (line c .kept .lines, g .variables, g .ranking, head i .held, next-exponents _ _ _ _ _ _ _ (head i))
 
 loop-less : tie.Need-loop-less Inv-loop μ-loop
-loop-less c = let i = c .before .before .before .before .before .before .before .before .before in
+loop-less c = let i = c .before .before .before .before .before .before .before .before .before .before in
     omega (arith, line (c .before) .count, next-few _ _ _ _ _ _ _ (head i))
 
 loop-again : tie.Need-loop-again Inv-loop μ-loop
-loop-again c = let x = c .before .before .before .before .before .before .before .before .before .before .loop in
+loop-again c = let x = c .before .before .before .before .before .before .before .before .before .before .before .loop in
     (x .inv .0, x .inv .1, onward _ _ _ _ _ _ _ (line (c .before)) _ _ (c .next .ensures .0) (c .next .ensures .1))
 
 mul-w : tie.Need-mul-w Inv-loop μ-loop
-mul-w c = let i = c .before .before .before .before .before .before in omega (arith, standard-few _ _ _ _ _ _ _ (head i))
+mul-w c = let i = c .before .before .before .before .before .before .before in omega (arith, standard-few _ _ _ _ _ _ _ (head i))
 
 element-set-from-w : tie.Need-element-set-from-w Inv-loop μ-loop
-element-set-from-w c = let d = c .before .before .before in let i = d .before .before .before in standard-room _ _ _ _ _ _ _ (head i) (whole (d .before)) (d .before .image-of .ensures) (d .add .ensures) (c .enum-told .given .1)
+element-set-from-w c = let d = c .before .before .before in let i = d .before .before .before .before in standard-room _ _ _ _ _ _ _ (head i) (whole (d .before)) (d .before .image-of .ensures) (d .add .ensures) (c .enum-told .given .1)
 
 pushed-requires : tie.Need-pushed-requires Inv-loop μ-loop
-pushed-requires c κs = let d = c .before .before .before in let i = d .before .before .before in standard-room _ _ _ _ _ _ _ (head i) (whole (d .before)) (d .before .image-of .ensures) (d .add .ensures) (c .enum-told .given .1)
+pushed-requires c κs = let d = c .before .before .before in let i = d .before .before .before .before in standard-room _ _ _ _ _ _ _ (head i) (whole (d .before)) (d .before .image-of .ensures) (d .add .ensures) (c .enum-told .given .1)
 
 next-requires-2 : tie.Need-next-requires-2 Inv-loop μ-loop
 next-requires-2 c κs =
-    let i = c .before .before .before .before .before .before .before in
+    let i = c .before .before .before .before .before .before .before .before in
     let g = i .before .loop .inv .0 in
     (head i .kept .lines, g .variables, g .ranking, head i .held, next-exponents _ _ _ _ _ _ _ (head i))
 
 loop-less-2 : tie.Need-loop-less-2 Inv-loop μ-loop
-loop-less-2 c = let i = c .before .before .before .before .before .before .before .before in
+loop-less-2 c = let i = c .before .before .before .before .before .before .before .before .before in
     omega (arith, standard (c .before) .count, next-few _ _ _ _ _ _ _ (head i))
 
 loop-again-2 : tie.Need-loop-again-2 Inv-loop μ-loop
-loop-again-2 c = let x = c .before .before .before .before .before .before .before .before .before .loop in
+loop-again-2 c = let x = c .before .before .before .before .before .before .before .before .before .before .loop in
     (x .inv .0, x .inv .1, onward _ _ _ _ _ _ _ (standard (c .before)) _ _ (c .next2 .ensures .0) (c .next2 .ensures .1))
 
 returns : tie.Need-returns Inv-loop μ-loop
@@ -176,6 +183,7 @@ enumerate-spec =
     empty-requires
     one-requires
     loop-holds
+    slice-aggregate-image-of
     image-of-requires
     add-requires
     enum-told

@@ -15,17 +15,17 @@ use Rattle.fglm.proofs.image.image_of.Statement.{statement}
 use Rattle.fglm.proofs.image.image_of.Tie as tie
 
 full : (c : tie.Start) → c .args .standard .count ≤ length (c .args .standard .monomials)
-full c = let e : length (c .args .standard .monomials) ≡ most-standard = search (length-mapped, needs) in omega (arith, c .pre .2)
+full c = let e : length (c .args .standard .monomials) ≡ most-standard = search (length-mapped, needs) in omega (arith, c .pre .3)
 
 -- m is the variable times the quotient.
-split : (c : tie.After-over-variable) → let d = c .before .before in let a = d .before .args in
+split : (c : tie.After-over-variable) → let d = c .before .before in let a = d .before .before .args in
     row (a .n) (a .m) ≡ product (a .n) (variable (a .n) (d .first-variable .result)) (row (a .n) (c .over-variable .result))
-split c = let d = c .before .before in let n = d .before .args .n in
+split c = let d = c .before .before in let n = d .before .before .args .n in
     first-some (d .first-variable .ensures) (omega (arith, c .before .if1 .left)) ∙ ap (product n (variable n (d .first-variable .result))) (sym (c .over-variable .ensures))
 
-inside : (c : tie.After-place-of) → c .place-of .result < c .before .before .before .before .args .standard .count
-inside c = let d = c .before .before .before in let s = d .before in
-    divisor-place _ (s .args .standard) (full s) _ _ _ (omega (arith, c .before .before .if1 .left)) (split (c .before)) (s .pre .7) _ (c .place-of .ensures)
+inside : (c : tie.After-place-of) → c .place-of .result < c .before .before .before .before .before .args .standard .count
+inside c = let s = c .before .before .before .before .before in
+    divisor-place _ (s .args .standard) (full s) _ _ _ (omega (arith, c .before .before .if1 .left)) (split (c .before)) (s .pre .8) _ (c .place-of .ensures)
 
 first-variable-requires : tie.Need-first-variable-requires
 first-variable-requires c κs = search needs
@@ -34,11 +34,11 @@ one-row-requires : tie.Need-one-row-requires
 one-row-requires c κs = search needs
 
 returns : tie.Need-returns
-returns c = let d = c .before .before in image-one (d .before .pre .3) (first-none (d .first-variable .ensures) (c .before .if1 .taken)) (c .one-row .ensures)
+returns c = let d = c .before .before in image-one (d .before .before .pre .4) (first-none (d .first-variable .ensures) (c .before .if1 .taken)) (c .one-row .ensures)
 
 over-variable-requires : tie.Need-over-variable-requires
-over-variable-requires c κs = let i : c .before .first-variable .result < c .before .before .args .n = omega (arith, c .if1 .left) in
-    (c .before .before .pre .0, i, c .before .first-variable .ensures .found i)
+over-variable-requires c κs = let i : c .before .first-variable .result < c .before .before .before .args .n = omega (arith, c .if1 .left) in
+    (c .before .before .before .pre .1, i, c .before .first-variable .ensures .found i)
 
 place-of-requires : tie.Need-place-of-requires
 place-of-requires c κs = search needs
@@ -47,25 +47,21 @@ mul-w : tie.Need-mul-w
 mul-w c = search needs
 
 element-copy-out-w : tie.Need-element-copy-out-w
-element-copy-out-w c = omega (arith, inside c, c .before .before .before .before .pre .2)
+element-copy-out-w c = omega (arith, inside c, c .before .before .before .before .before .pre .3)
 
 apply-requires : tie.Need-apply-requires
 apply-requires c κs =
-    let s = c .before .before .before .before .before in
-    let (n, l, k, h, m, t, w, _) = s .pre in
-    (omega (arith, c .before .before .before .if1 .left), l, omega arith, m, t, w _ (inside (c .before)))
-
-cut-requires : tie.Need-cut-requires
-cut-requires c κs = search needs
+    let s = c .before .before .before .before .before .before in
+    let (e, n, l, k, h, m, t, w, _) = s .pre in
+    (e, omega (arith, c .before .before .before .if1 .left), l, omega arith, m, t, w _ (inside (c .before)))
 
 returns-2 : tie.Need-returns-2
 returns-2 c =
-    let e = c .before .before .before in
+    let e = c .before .before in
     let d = e .before .before .before in
-    let s = d .before in
-    image-product _ _ (omega (arith, e .before .before .if1 .left)) (s .pre .1) (inside e)
-    (split (e .before) ∙ ap (product (s .args .n) (variable (s .args .n) (d .first-variable .result))) (sym (e .place-of .ensures .found (inside e))))
-    (s .pre .3) (c .before .apply .ensures) (c .cut .ensures)
+    let n = d .before .before .args .n in
+    image-product _ _ (omega (arith, e .before .before .if1 .left)) (inside e)
+    (split (e .before) ∙ ap (product n (variable n (d .first-variable .result))) (sym (e .place-of .ensures .found (inside e)))) (c .apply .ensures)
 
 pub image-of-spec : {M : Type 1} → statement M
 image-of-spec =
@@ -79,5 +75,4 @@ image-of-spec =
     mul-w
     element-copy-out-w
     apply-requires
-    cut-requires
     returns-2)

@@ -1,9 +1,8 @@
 -- `multiply` meets its contract. The loop's invariant: the first k products are stored.
-use Prim.Native.Nat.{_-_}
-use mathlib.Core.Path.{_∙_, ap}
+use Prim.Native.Nat.{_*_, _-_, _%_}
 use native.Mathlib.Omega.{arith}
 use borrow.Author.Needs.{needs}
-use Rattle.residue.specs.Modular.{product}
+use Rattle.residue.proofs.Bounds.{product-bound}
 use Rattle.tabtext.specs.Sizes.{most-standard}
 use Rattle.multiplication.specs.Rows.{coordinate}
 use Rattle.reduction.proofs.Elements.{length-mapped}
@@ -13,28 +12,37 @@ use Rattle.fglm.proofs.vectors.multiply.Statement.{statement}
 use Rattle.fglm.proofs.vectors.multiply.Tie as tie
 
 abbrev Inv-loop : tie.InvT-loop
-Inv-loop c a p r₀ k₀ r k = FilledVector p (λ j. product p (c .0) (coordinate a j)) r k
+Inv-loop c p a over r₀ k₀ r k = FilledVector p (λ j. c .0 * coordinate a j % p) r k
 
 abbrev μ-loop : tie.MeasureT-loop
-μ-loop c a p r₀ k₀ r k = most-standard - k
+μ-loop c p a over r₀ k₀ r k = most-standard - k
 
-size : (c : tie.Start Inv-loop μ-loop) → Whole (c .args .a)
+size : (c : tie.Start Inv-loop μ-loop) → Whole (c .args .t2)
 size c = search (length-mapped, needs)
 
+word-over-requires : tie.Need-word-over-requires Inv-loop μ-loop
+word-over-requires c κs = c .pre .0
+
 loop-holds : tie.Need-loop-holds Inv-loop μ-loop
-loop-holds c = filled-start (size c)
+loop-holds c = filled-start (size (c .before))
 
-at-requires : tie.Need-at-requires Inv-loop μ-loop
-at-requires c κs = search needs
+mul-remainder : tie.Need-mul-remainder Inv-loop μ-loop
+mul-remainder c = search needs
 
-mul-requires : tie.Need-mul-requires Inv-loop μ-loop
-mul-requires c κs =
+element-copy-out-remainder : tie.Need-element-copy-out-remainder Inv-loop μ-loop
+element-copy-out-remainder c = search needs
+
+mul-remainder-2 : tie.Need-mul-remainder-2 Inv-loop μ-loop
+mul-remainder-2 c =
     let s = c .before .before in
-    let (_, m, k, b) = s .before .pre in
-    (k, omega (arith, c .at .ensures, b .below (s .loop .k)), m)
+    let a = s .before .before in
+    omega (arith, product-bound (a .args .p) (a .args .c .0) (coordinate (a .args .t2) (s .loop .k)) (a .pre .1) (a .pre .2) (a .pre .3 .below (s .loop .k)))
 
-mul-t9 : tie.Need-mul-t9 Inv-loop μ-loop
-mul-t9 c = search needs
+remainder-requires : tie.Need-remainder-requires Inv-loop μ-loop
+remainder-requires c κs = let s = c .before .before .before in (s .before .pre .0, s .word-over .ensures)
+
+mul-t16 : tie.Need-mul-t16 Inv-loop μ-loop
+mul-t16 c = search needs
 
 element-set-from-r : tie.Need-element-set-from-r Inv-loop μ-loop
 element-set-from-r c = search needs
@@ -48,14 +56,13 @@ loop-less c = search needs
 loop-again : tie.Need-loop-again Inv-loop μ-loop
 loop-again c =
     let s = c .before .before .before in
-    let a = s .before .args in
-    filled-turn (s .loop .inv) (c .before .before .loop-test .taken) (c .mul .ensures .0 ∙ ap (product (a .p) (a .c .0)) (c .before .at .ensures), c .mul .ensures .1)
+    filled-turn (s .loop .inv) (c .before .before .loop-test .taken) (c .remainder .ensures)
 
 returns : tie.Need-returns Inv-loop μ-loop
 returns c =
     let s = c .before in
     let i = s .loop .inv in
-    multiplied-entries _ _ (i .whole) (filled-below i (omega arith) (omega arith)) _ _ (size (s .before)) (filled-entries i (omega arith))
+    multiplied-entries _ _ (i .whole) (filled-below i (omega arith) (omega arith)) _ _ (size (s .before .before)) (filled-entries i (omega arith))
 
 pub multiply-spec : {M : Type 1} → statement M
 multiply-spec =
@@ -63,10 +70,13 @@ multiply-spec =
     (tie.spec
     Inv-loop
     μ-loop
+    word-over-requires
     loop-holds
-    at-requires
-    mul-requires
-    mul-t9
+    mul-remainder
+    element-copy-out-remainder
+    mul-remainder-2
+    remainder-requires
+    mul-t16
     element-set-from-r
     add-k
     loop-less

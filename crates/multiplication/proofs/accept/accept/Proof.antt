@@ -16,15 +16,19 @@ full c = let e : length (c .args .l .monomials) ≡ most-standard = search (leng
 fill-requires : tie.Need-fill-requires
 fill-requires c κs = let (sound, irreducibles, lines, clear) = c .pre in (sound, irreducibles, λ h g q. lines h .falling g q .0)
 
+slice-aggregate-commute : tie.Need-slice-aggregate-commute
+slice-aggregate-commute c = search needs
+
 commute-requires : tie.Need-commute-requires
 commute-requires c κs = search needs
 
 returns : tie.Need-returns
 returns c =
-    let s = c .before .before in
+    let f = c .before .before .before in
+    let s = f .before in
     let (sound, irreducibles, lines, clear) = s .pre in
-    let (below, filled) = c .before .fill .ensures in
+    let (below, filled) = f .fill .ensures in
     acceptance (s .args .b) sound (s .args .l) irreducibles (full s) lines clear _ below filled (c .commute .ensures)
 
 pub accept-spec : {M : Type 1} → statement M
-accept-spec = tie.close (tie.spec fill-requires commute-requires returns)
+accept-spec = tie.close (tie.spec fill-requires slice-aggregate-commute commute-requires returns)

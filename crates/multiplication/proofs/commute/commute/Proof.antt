@@ -1,7 +1,7 @@
 -- `commute` meets its contract. The loop's invariant: no test below j failed.
 use Prim.Native.Nat.{ℕ, _-_, _≤_, _<_}
 use borrow.Author.Count.{below-more}
-use Rattle.multiplication.specs.Rows.{CommuteAt}
+use Rattle.multiplication.specs.Rows.{tablesOf, CommuteAt}
 use Rattle.multiplication.proofs.Testing.{tested-failed, tested-all, refuted, confirmed}
 use mathlib.Core.Logic.{Iff·trans}
 use Rattle.multiplication.proofs.CommutingRows.{all-commute}
@@ -10,18 +10,18 @@ use Rattle.multiplication.proofs.commute.commute.Statement.{statement}
 use Rattle.multiplication.proofs.commute.commute.Tie as tie
 
 abbrev Inv-loop : tie.InvT-loop
-Inv-loop t n d p j₀ j = (j ≤ n) × ((h : 1 < p) (k : ℕ) → k < j → (i : ℕ) → i < k → (s : ℕ) → s < d → CommuteAt p h t d i k s)
+Inv-loop cells n d p j₀ j = (j ≤ n) × ((h : 1 < p) (k : ℕ) → k < j → (i : ℕ) → i < k → (s : ℕ) → s < d → CommuteAt p h (tablesOf cells) d i k s)
 
 abbrev μ-loop : tie.MeasureT-loop
-μ-loop t n d p j₀ j = n - j
+μ-loop cells n d p j₀ j = n - j
 
 loop-holds : tie.Need-loop-holds Inv-loop μ-loop
 loop-holds c = (omega arith, λ h k l. absurd (omega arith))
 
 commute-before-requires : tie.Need-commute-before-requires Inv-loop μ-loop
 commute-before-requires c κs =
-    let (n, d, o, m, b) = c .before .before .pre in
-    (omega arith, d, o, m, b)
+    let (e, n, d, o, m, b) = c .before .before .before .pre in
+    (e, omega arith, d, o, m, b)
 
 returns : tie.Need-returns Inv-loop μ-loop
 returns c = λ h.

@@ -1,25 +1,25 @@
 -- `commute_before` meets its contract. The loop's invariant: no test below i failed.
 use Prim.Native.Nat.{ℕ, _-_, _≤_, _<_}
 use borrow.Author.Count.{below-more}
-use Rattle.multiplication.specs.Rows.{CommuteAt}
+use Rattle.multiplication.specs.Rows.{tablesOf, CommuteAt}
 use Rattle.multiplication.proofs.Testing.{tested-failed, tested-all, refuted, confirmed}
 use native.Mathlib.Omega.{arith}
 use Rattle.multiplication.proofs.commute.commute_before.Statement.{statement}
 use Rattle.multiplication.proofs.commute.commute_before.Tie as tie
 
 abbrev Inv-loop : tie.InvT-loop
-Inv-loop t j d p i₀ i = (i ≤ j) × ((h : 1 < p) (k : ℕ) → k < i → (s : ℕ) → s < d → CommuteAt p h t d k j s)
+Inv-loop cells j d p i₀ i = (i ≤ j) × ((h : 1 < p) (k : ℕ) → k < i → (s : ℕ) → s < d → CommuteAt p h (tablesOf cells) d k j s)
 
 abbrev μ-loop : tie.MeasureT-loop
-μ-loop t j d p i₀ i = j - i
+μ-loop cells j d p i₀ i = j - i
 
 loop-holds : tie.Need-loop-holds Inv-loop μ-loop
 loop-holds c = (omega arith, λ h k l. absurd (omega arith))
 
 commute-pair-requires : tie.Need-commute-pair-requires Inv-loop μ-loop
 commute-pair-requires c κs =
-    let (j, d, o, m, b) = c .before .before .pre in
-    (omega arith, j, d, o, m, b)
+    let (e, j, d, o, m, b) = c .before .before .before .pre in
+    (e, omega arith, j, d, o, m, b)
 
 returns : tie.Need-returns Inv-loop μ-loop
 returns c = λ h.

@@ -1,25 +1,25 @@
 -- `commute_pair` meets its contract. The loop's invariant: no test below s failed.
 use Prim.Native.Nat.{ℕ, _-_, _≤_, _<_}
 use borrow.Author.Count.{below-more}
-use Rattle.multiplication.specs.Rows.{CommuteAt}
+use Rattle.multiplication.specs.Rows.{tablesOf, CommuteAt}
 use Rattle.multiplication.proofs.Testing.{tested-failed, tested-all, refuted, confirmed}
 use native.Mathlib.Omega.{arith}
 use Rattle.multiplication.proofs.commute.commute_pair.Statement.{statement}
 use Rattle.multiplication.proofs.commute.commute_pair.Tie as tie
 
 abbrev Inv-loop : tie.InvT-loop
-Inv-loop t i j d p s₀ s = (s ≤ d) × ((h : 1 < p) (k : ℕ) → k < s → CommuteAt p h t d i j k)
+Inv-loop cells i j d p s₀ s = (s ≤ d) × ((h : 1 < p) (k : ℕ) → k < s → CommuteAt p h (tablesOf cells) d i j k)
 
 abbrev μ-loop : tie.MeasureT-loop
-μ-loop t i j d p s₀ s = d - s
+μ-loop cells i j d p s₀ s = d - s
 
 loop-holds : tie.Need-loop-holds Inv-loop μ-loop
 loop-holds c = (omega arith, λ h k l. absurd (omega arith))
 
 commute-at-requires : tie.Need-commute-at-requires Inv-loop μ-loop
 commute-at-requires c κs =
-    let (i, j, d, o, m, b) = c .before .before .pre in
-    (i, j, c .loop-test .taken, d, o, m, b)
+    let (e, i, j, d, o, m, b) = c .before .before .before .pre in
+    (e, i, j, c .loop-test .taken, d, o, m, b)
 
 returns : tie.Need-returns Inv-loop μ-loop
 returns c = λ h.

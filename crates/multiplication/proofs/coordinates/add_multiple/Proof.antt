@@ -1,9 +1,9 @@
 -- `add_multiple` meets its contract. The loop's invariant: the first k sums are those of the result, the others those of the argument.
-use Prim.Native.Nat.{_+_, _*_, _-_, _≤_}
-use mathlib.Core.Path.{_≡_, _∙_, ap, ap₂}
-use Rattle.multiplication.specs.Rows.{coordinate, sumAt}
-use lib.ListN.{length, getD}
+use Prim.Native.Nat.{_+_, _*_, _-_, _<_, _≤_}
+use mathlib.Core.Path.{_≡_, sym, _∙_, ap}
+use lib.ListN.{getD}
 use Rattle.tabtext.specs.Sizes.{most-standard}
+use Rattle.multiplication.proofs.NaturalSums.{plus-zero-times}
 use Rattle.multiplication.proofs.Storing.{Stored, stored-none, stored-more}
 use native.Mathlib.Omega.{arith}
 use borrow.Author.Needs.{needs}
@@ -11,47 +11,54 @@ use Rattle.multiplication.proofs.coordinates.add_multiple.Statement.{st
 use Rattle.multiplication.proofs.coordinates.add_multiple.Tie as tie
 
 abbrev Inv-loop : tie.InvT-loop
-Inv-loop c row acc₀ k₀ acc k = (k ≤ most-standard) × Stored (λ j x. x ≡ sumAt acc₀ j + c .0 * coordinate row j) 0 (acc₀ .s) (acc .s) k
+Inv-loop sums₀ c cells at k₀ sums k = (k ≤ most-standard) × Stored (λ j x. x ≡ getD sums₀ j 0 + c * getD cells (at + j) 0) 0 sums₀ sums k
 
 abbrev μ-loop : tie.MeasureT-loop
-μ-loop c row acc₀ k₀ acc k = most-standard - k
+μ-loop sums₀ c cells at k₀ sums k = most-standard - k
 
-size : (c : tie.Start Inv-loop μ-loop) → length (c .args .t1 .s) ≡ most-standard
-size c = search needs
-
--- The new sum.
-sum-at : (c : tie.After-times Inv-loop μ-loop) → let s = c .before .before .before .before in
-    getD (s .loop .acc .s) (s .loop .k) 0 + c .times .result ≡ sumAt (s .before .args .t1) (s .loop .k) + s .before .args .c .0 * coordinate (s .before .args .row) (s .loop .k)
-sum-at c =
-    let s = c .before .before .before .before in
-    ap₂ _+_ (s .loop .inv .1 .kept (s .loop .k) (omega arith)) (c .times .ensures ∙ ap (s .before .args .c .0 *_) (c .before .at .ensures))
+returns : tie.Need-returns Inv-loop μ-loop
+returns c = λ k h. sym (plus-zero-times _ _ _ (c .if1 .taken))
 
 loop-holds : tie.Need-loop-holds Inv-loop μ-loop
 loop-holds c = (omega arith, stored-none _ _ _)
 
-mul-acc : tie.Need-mul-acc Inv-loop μ-loop
-mul-acc c = search needs
+mul-sums : tie.Need-mul-sums Inv-loop μ-loop
+mul-sums c = search needs
 
-element-copy-out-acc : tie.Need-element-copy-out-acc Inv-loop μ-loop
-element-copy-out-acc c = search needs
+slice-read-sums : tie.Need-slice-read-sums Inv-loop μ-loop
+slice-read-sums c = search needs
 
-at-requires : tie.Need-at-requires Inv-loop μ-loop
-at-requires c κs = search needs
+add-sums : tie.Need-add-sums Inv-loop μ-loop
+add-sums c = search needs
 
-times-requires : tie.Need-times-requires Inv-loop μ-loop
-times-requires c κs = search needs
+mul-sums-2 : tie.Need-mul-sums-2 Inv-loop μ-loop
+mul-sums-2 c = search needs
 
-add-acc : tie.Need-add-acc Inv-loop μ-loop
-add-acc c =
-    let s = c .before .before .before .before in
+shared-slice-read-sums : tie.Need-shared-slice-read-sums Inv-loop μ-loop
+shared-slice-read-sums c = search needs
+
+mul-sums-3 : tie.Need-mul-sums-3 Inv-loop μ-loop
+mul-sums-3 c =
+    let s = c .before .before .before in
+    omega (arith, s .before .before .pre .2 .product (s .loop .k) (omega arith))
+
+cast-sums : tie.Need-cast-sums Inv-loop μ-loop
+cast-sums c =
+    let s = c .before .before .before in
+    omega (arith, s .before .before .pre .2 .product (s .loop .k) (omega arith))
+
+add-sums-2 : tie.Need-add-sums-2 Inv-loop μ-loop
+add-sums-2 c =
+    let s = c .before .before .before in
+    let f = s .before .before .pre .2 in
     let k = s .loop .k in
-    omega (arith, sum-at c, s .before .pre k (omega arith))
+    omega (arith, f .product k (omega arith), f .sum k (omega arith), s .loop .inv .1 .kept k (omega arith))
 
-mul-acc-2 : tie.Need-mul-acc-2 Inv-loop μ-loop
-mul-acc-2 c = search needs
+mul-sums-4 : tie.Need-mul-sums-4 Inv-loop μ-loop
+mul-sums-4 c = search needs
 
-element-write-acc : tie.Need-element-write-acc Inv-loop μ-loop
-element-write-acc c = search needs
+slice-write-sums : tie.Need-slice-write-sums Inv-loop μ-loop
+slice-write-sums c = search needs
 
 add-k : tie.Need-add-k Inv-loop μ-loop
 add-k c = search needs
@@ -60,12 +67,16 @@ loop-less : tie.Need-loop-less Inv-loop μ-loop
 loop-less c = search needs
 
 loop-again : tie.Need-loop-again Inv-loop μ-loop
-loop-again c =
-    let s = c .before .before .before .before in
-    (omega arith, stored-more _ _ _ _ (s .loop .k) _ (s .loop .inv .1) (omega (arith, size (s .before))) (sum-at c))
+loop-again c = 
+    let s = c .before .before .before in
+    let l = s .loop in
+    (omega arith, stored-more _ _ _ _ (l .k) _ (l .inv .1) (omega (arith, s .before .before .pre .0)) (ap (_+ (s .before .before .args .c * getD (s .before .before .args .cells .now) (s .before .before .args .at + l .k) 0)) (l .inv .1 .kept (l .k) (omega arith))))
 
-returns : tie.Need-returns Inv-loop μ-loop
-returns c = λ k h. c .before .loop .inv .1 .stored k (omega arith)
+same-length : tie.Need-same-length Inv-loop μ-loop
+same-length c = c .before .loop .inv .1 .size
+
+returns-2 : tie.Need-returns-2 Inv-loop μ-loop
+returns-2 c = λ k h. c .before .loop .inv .1 .stored k (omega arith)
 
 pub add-multiple-spec : {M : Type 1} → statement M
 add-multiple-spec =
@@ -73,15 +84,20 @@ add-multiple-spec =
     (tie.spec
     Inv-loop
     μ-loop
+    returns
     loop-holds
-    mul-acc
-    element-copy-out-acc
-    at-requires
-    times-requires
-    add-acc
-    mul-acc-2
-    element-write-acc
+    mul-sums
+    slice-read-sums
+    add-sums
+    mul-sums-2
+    shared-slice-read-sums
+    mul-sums-3
+    cast-sums
+    add-sums-2
+    mul-sums-4
+    slice-write-sums
     add-k
     loop-less
     loop-again
-    returns)
+    same-length
+    returns-2)

@@ -1,11 +1,17 @@
 -- `fill` meets its contract. The loop's invariant: the rows below the cursors are filled, and i has the smallest next product.
 use mathlib.Core.Path.{_≡_, refl}
-use Prim.Native.Nat.{_+_, _*_, _≤_, _<_}
-use Rattle.monomial.specs.Sizes.{most-variables}
+use mathlib.Core.Bool.{false}
+use Prim.Native.Nat.{_≤_, _<_}
 use lib.ListN.{length}
-use Rattle.tabtext.specs.Sizes.{most-standard}
+use Rattle.monomial.specs.Sizes.{most-variables}
+use Rattle.tabtext.specs.Sizes.{most-standard, most-lines}
+use Rattle.reduction.specs.Leads.{LeadsOf}
+use Rattle.reduction.specs.Sound.{generatorAt}
+use Rattle.multiplication.specs.Rows.{tablesOf}
 use Rattle.multiplication.specs.Cursors.{cursor, Best, Listing}
+use Rattle.multiplication.specs.Rules.{Unlisted, Through}
 use Rattle.reduction.proofs.Elements.{length-mapped}
+use Rattle.multiplication.proofs.RowRules.{listed-once, comes-through, row-made}
 use Rattle.multiplication.proofs.AllRows.{room, room-less, Filling, filling-none, place-fits, filling-more, filling-all}
 use native.Mathlib.Omega.{arith}
 use borrow.Author.Needs.{needs}
@@ -13,99 +19,146 @@ use Rattle.multiplication.proofs.fill.fill.Statement.{statement}
 use Rattle.multiplication.proofs.fill.fill.Tie as tie
 
 abbrev Inv-loop : tie.InvT-loop
-Inv-loop b l t₀ c₀ i₀ t c i = Filling b l t c × Best (b .n) l c i (b .n)
+Inv-loop l b cells₀ c₀ keys leads lead-keys i₀ cells c i = Filling b l (tablesOf cells) c × Best (b .n) l c i (b .n)
 
 abbrev μ-loop : tie.MeasureT-loop
-μ-loop b l t₀ c₀ i₀ t c i = room (c .at) (l .count)
+μ-loop l b cells₀ c₀ keys leads lead-keys i₀ cells c i = room (c .at) (l .count)
 
 full : (c : tie.Start Inv-loop μ-loop) → c .args .l .count ≤ length (c .args .l .monomials)
 full c = let e : length (c .args .l .monomials) ≡ most-standard = search (length-mapped, needs) in omega (arith, c .pre .1 .few)
 
-listing : (c : tie.Start Inv-loop μ-loop) → Listing (c .args .b .n) (c .args .l)
+lines : (c : tie.Start Inv-loop μ-loop) → c .args .t1 .lines ≤ length (c .args .t1 .generators)
+lines c = let e : length (c .args .t1 .generators) ≡ most-lines = search (length-mapped, needs) in omega (arith, c .pre .0 .few)
+
+listing : (c : tie.Start Inv-loop μ-loop) → Listing (c .args .t1 .n) (c .args .l)
 listing c = let (sound, li, _) = c .pre in record { variables = sound .variables .1; few = li .few; exponents = li .exponents }
 
-zero-requires : tie.Need-zero-requires Inv-loop μ-loop
-zero-requires c κs = search needs
+abbrev origin : tie.At-loop Inv-loop μ-loop → tie.Start Inv-loop μ-loop
+origin c = c .before .before .before .before .before .before .before .before .before
 
-smallest-requires : tie.Need-smallest-requires Inv-loop μ-loop
-smallest-requires c κs = listing (c .before)
-
-loop-holds : tie.Need-loop-holds Inv-loop μ-loop
-loop-holds c =
-    let s = c .before .before in
-    (filling-none (c .before .zero .result) (omega (arith, s .pre .0 .modulus .prime .above-one)) (c .before .zero .ensures) refl refl, c .smallest .ensures)
-
-mul-s : tie.Need-mul-s Inv-loop μ-loop
-mul-s c = omega (arith, c .before .before .before .before .before .pre .0 .variables .1)
-
-element-copy-out-s : tie.Need-element-copy-out-s Inv-loop μ-loop
-element-copy-out-s c = omega (arith, c .before .before .before .before .before .pre .0 .variables .1)
-
-row-for-requires : tie.Need-row-for-requires Inv-loop μ-loop
-row-for-requires c κs =
-    let d = c .before .before .before in
-    let s = d .before .before .before in
-    let (sound, li, low) = s .pre in
-    let (filling, best) = d .loop .inv in
-    (sound, li, filling .below, c .before .if1 .taken, best .some (c .before .if1 .taken))
+leads-are : (c : tie.At-loop Inv-loop μ-loop) → let l = c .before .before .before .before .before .of .result in LeadsOf (origin c .args .t1) (l .count) (l .monomials)
+leads-are c = c .before .before .before .before .before .of .ensures
 
 -- The places of the row and of the cursor that are stored.
-bounds : (c : tie.After-row-for Inv-loop μ-loop) → let d = c .before .before .before .before in (d .loop .i * most-standard + cursor (d .loop .c) (d .loop .i) < 128) × (cursor (d .loop .c) (d .loop .i) < most-standard) × (d .loop .i < most-variables)
+bounds : (c : tie.After-s Inv-loop μ-loop) → let d = c .before .before in (d .loop .i < most-variables) × (cursor (d .loop .c) (d .loop .i) < most-standard)
 bounds c =
-    let d = c .before .before .before .before in
-    let s = d .before .before .before in
+    let d = c .before .before in
+    let s = origin d in
     let (sound, li, low) = s .pre in
     let (filling, best) = d .loop .inv in
-    let u = c .before .before .if1 .taken in
-    (place-fits filling sound li (full s) best u, omega (arith, best .some u, li .few), omega (arith, sound .variables .1))
+    place-fits filling sound li (full s) best (c .before .loop-test .taken)
 
-mul-t12 : tie.Need-mul-t12 Inv-loop μ-loop
-mul-t12 c = omega (arith, bounds c)
+slice-aggregate-put-keys : tie.Need-slice-aggregate-put-keys Inv-loop μ-loop
+slice-aggregate-put-keys c = search needs
 
-add-t15 : tie.Need-add-t15 Inv-loop μ-loop
-add-t15 c = omega (arith, bounds c)
+put-keys-requires : tie.Need-put-keys-requires Inv-loop μ-loop
+put-keys-requires c κs = let (sound, li, _) = c .before .pre in (sound .variables .1, li .few, search needs)
 
-mul-t18 : tie.Need-mul-t18 Inv-loop μ-loop
-mul-t18 c = omega (arith, bounds c)
+of-requires : tie.Need-of-requires Inv-loop μ-loop
+of-requires c κs = c .before .before .before .pre .0
 
-element-set-from-t : tie.Need-element-set-from-t Inv-loop μ-loop
-element-set-from-t c = omega (arith, bounds c)
+slice-aggregate-put-lead-keys : tie.Need-slice-aggregate-put-lead-keys Inv-loop μ-loop
+slice-aggregate-put-lead-keys c = search needs
+
+put-lead-keys-requires : tie.Need-put-lead-keys-requires Inv-loop μ-loop
+put-lead-keys-requires c κs = let sound = c .before .before .before .before .before .pre .0 in (sound .variables .1, omega (arith, c .before .of .ensures .0, sound .few), search needs)
+
+smallest-requires : tie.Need-smallest-requires Inv-loop μ-loop
+smallest-requires c κs = listing (c .before .before .before .before .before .before .before)
+
+loop-holds : tie.Need-loop-holds Inv-loop μ-loop
+loop-holds c = (filling-none (omega (arith, c .before .before .before .before .before .before .before .before .pre .0 .modulus .prime .above-one)) refl refl, c .smallest .ensures)
+
+mul-s : tie.Need-mul-s Inv-loop μ-loop
+mul-s c = omega (arith, origin (c .before) .pre .0 .variables .1)
+
+element-copy-out-s : tie.Need-element-copy-out-s Inv-loop μ-loop
+element-copy-out-s c = omega (arith, origin (c .before) .pre .0 .variables .1)
+
+slice-aggregate-line-for : tie.Need-slice-aggregate-line-for Inv-loop μ-loop
+slice-aggregate-line-for c = search needs
+
+line-for-requires : tie.Need-line-for-requires Inv-loop μ-loop
+line-for-requires c κs =
+    let d = c .before .before .before in
+    let s = origin d in
+    let u = c .before .before .loop-test .taken in
+    (listing s, omega (arith, leads-are d .0, s .pre .0 .few), d .before .before .before .put-lead-keys .ensures, u, d .loop .inv .1 .some u)
+
+mul-g : tie.Need-mul-g Inv-loop μ-loop
+mul-g c = omega (arith, c .line-for .ensures .within)
+
+element-copy-out-g : tie.Need-element-copy-out-g Inv-loop μ-loop
+element-copy-out-g c = omega (arith, c .line-for .ensures .within)
+
+slice-aggregate-row-for : tie.Need-slice-aggregate-row-for Inv-loop μ-loop
+slice-aggregate-row-for c = search needs
+
+slice-aggregate-row-for-2 : tie.Need-slice-aggregate-row-for-2 Inv-loop μ-loop
+slice-aggregate-row-for-2 c = search needs
+
+row-for-requires : tie.Need-row-for-requires Inv-loop μ-loop
+unfolding generatorAt
+row-for-requires c κs =
+    let f = c .before .before .before in
+    let d = f .before .before .before .before in
+    let s = origin d in
+    let (sound, li, low) = s .pre in
+    let (filling, best) = d .loop .inv in
+    let u = f .before .before .before .loop-test .taken in
+    (filling .size, filling .below, d .before .before .before .before .before .before .before .put-keys .ensures, listing s, listed-once _ _ li (full s) (sound .modulus .prime .above-one),
+    sound .modulus .prime .above-one, sound .modulus .size, u, best .some u,
+    λ e. sound .lines _ (omega (arith, f .line-for .ensures .found e .0, leads-are d .0)),
+    comes-through _ sound _ li (full s) (lines s) _ (leads-are d) (tablesOf (d .loop .cells)) _ _ u (best .some u) (f .line-for .ensures))
+
+slice-aggregate-put-row : tie.Need-slice-aggregate-put-row Inv-loop μ-loop
+slice-aggregate-put-row c = search needs
+
+put-row-requires : tie.Need-put-row-requires Inv-loop μ-loop
+put-row-requires c κs =
+    let t = c .before .before .before .before .before .before .before in
+    let (e, f) = bounds t in
+    (t .before .before .loop .inv .0 .size, e, f)
 
 add-c : tie.Need-add-c Inv-loop μ-loop
-add-c c = omega (arith, bounds c)
+add-c c = omega (arith, bounds (c .before .before .before .before .before .before .before .before .before))
 
 mul-c : tie.Need-mul-c Inv-loop μ-loop
-mul-c c = omega (arith, bounds c)
+mul-c c = omega (arith, bounds (c .before .before .before .before .before .before .before .before .before))
 
 element-write-c : tie.Need-element-write-c Inv-loop μ-loop
-element-write-c c = omega (arith, bounds c)
+element-write-c c = omega (arith, bounds (c .before .before .before .before .before .before .before .before .before))
 
 smallest-requires-2 : tie.Need-smallest-requires-2 Inv-loop μ-loop
-smallest-requires-2 c κs = listing (c .before .before .before .before .before .before .before)
+smallest-requires-2 c κs = listing (origin (c .before .before .before .before .before .before .before .before .before .before .before))
 
 loop-less : tie.Need-loop-less Inv-loop μ-loop
 loop-less c =
-    let d = c .before .before .before .before .before in
-    let s = d .before .before .before in
-    let (filling, best) = d .loop .inv in
-    let u = c .before .before .before .if1 .taken in
-    room-less _ _ _ (omega (arith, filling .cursors, s .pre .0 .variables .1)) (best .some u)
+    let t = c .before .before .before .before .before .before .before .before .before .before in
+    let (filling, best) = t .before .before .loop .inv in
+    room-less _ _ _ (omega (arith, filling .cursors, bounds t)) (best .some (t .before .loop-test .taken))
 
 loop-again : tie.Need-loop-again Inv-loop μ-loop
+unfolding generatorAt
 loop-again c =
-    let d = c .before .before .before .before .before in
-    let s = d .before .before .before in
+    let r = c .before .before .before .before in
+    let f = r .before .before .before .before in
+    let t = f .before .before .before in
+    let d = t .before in
+    let s = origin d in
     let (sound, li, low) = s .pre in
     let (filling, best) = d .loop .inv in
-    (filling-more filling sound li (full s) best (c .before .before .before .if1 .taken) low _ (c .before .row-for .ensures), c .smallest2 .ensures)
+    let u = t .loop-test .taken in
+    (filling-more filling sound li (full s) best u low (row-made _ sound _ li (full s) (lines s) _ (leads-are d) (tablesOf (d .loop .cells)) _ _ u (best .some u) (f .line-for .ensures) (r .row-for .ensures))
+    (search needs) (c .before .before .put-row .ensures), c .smallest2 .ensures)
 
 returns : tie.Need-returns Inv-loop μ-loop
 returns c =
-    let d = c .before .before in
-    let s = d .before .before .before in
+    let d = c .before in
+    let s = origin d in
     let (sound, li, low) = s .pre in
     let (filling, best) = d .loop .inv in
-    (filling .below, filling-all filling sound li (full s) best (c .if1 .left))
+    (filling .below, filling-all filling sound li (full s) best (c .loop-test .left))
 
 pub fill-spec : {M : Type 1} → statement M
 fill-spec =
@@ -113,16 +166,24 @@ fill-spec =
     (tie.spec
     Inv-loop
     μ-loop
-    zero-requires
+    slice-aggregate-put-keys
+    put-keys-requires
+    of-requires
+    slice-aggregate-put-lead-keys
+    put-lead-keys-requires
     smallest-requires
     loop-holds
     mul-s
     element-copy-out-s
+    slice-aggregate-line-for
+    line-for-requires
+    mul-g
+    element-copy-out-g
+    slice-aggregate-row-for
+    slice-aggregate-row-for-2
     row-for-requires
-    mul-t12
-    add-t15
-    mul-t18
-    element-set-from-t
+    slice-aggregate-put-row
+    put-row-requires
     add-c
     mul-c
     element-write-c

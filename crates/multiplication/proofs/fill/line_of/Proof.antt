@@ -1,68 +1,27 @@
--- `line_of` meets its contract. The loop's invariant: no line before line k has the leading monomial m.
-use Prim.Native.Nat.{_-_}
+-- `line_of` meets its contract.
 use Rattle.monomial.specs.Represented.{row}
-use Rattle.reduction.specs.Sound.{generatorAt}
-use Rattle.multiplication.proofs.LeadSought.{NoLine, no-line-none, no-line-more, no-line-found, no-line-all}
-use native.Mathlib.Omega.{arith}
+use Rattle.reduction.specs.Leads.{rowsOf}
+use Rattle.multiplication.specs.Listed.{Place}
+use Rattle.multiplication.proofs.KeyPlaces.{key-place}
+use Rattle.multiplication.proofs.LeadSought.{lead-found, lead-none}
 use borrow.Author.Needs.{needs}
 use Rattle.multiplication.proofs.fill.line_of.Statement.{statement}
 use Rattle.multiplication.proofs.fill.line_of.Tie as tie
 
-abbrev Inv-loop : tie.InvT-loop
-Inv-loop m b k₀ k = NoLine b (row (b .n) m) k
+key-requires : tie.Need-key-requires
+key-requires c κs = search needs
 
-abbrev μ-loop : tie.MeasureT-loop
-μ-loop m b k₀ k = b .lines - k
+key-place-requires : tie.Need-key-place-requires
+key-place-requires c κs = search needs
 
-loop-holds : tie.Need-loop-holds Inv-loop μ-loop
-loop-holds c = no-line-none
+place : (c : tie.After-key-place) → let a = c .before .before .before .args in Place (a .n) (rowsOf (a .n) (a .leads .count) (a .leads .monomials)) (a .leads .count) (row (a .n) (a .m)) (c .key-place .result)
+place c = let (n, _, keys) = c .before .before .before .pre in key-place _ n keys (c .before .key .ensures) (c .key-place .ensures)
 
-mul-g : tie.Need-mul-g Inv-loop μ-loop
-mul-g c = search needs
+returns : tie.Need-returns
+returns c = let d = c .before .before in lead-found _ _ (place d) (d .before .before .before .pre .1) (c .if1 .taken)
 
-element-copy-out-g : tie.Need-element-copy-out-g Inv-loop μ-loop
-element-copy-out-g c = search needs
-
-element-copy-out-lead : tie.Need-element-copy-out-lead Inv-loop μ-loop
-element-copy-out-lead c = search needs
-
-equal-requires : tie.Need-equal-requires Inv-loop μ-loop
-equal-requires c κs = c .before .before .before .before .pre .variables .1
-
-returns : tie.Need-returns Inv-loop μ-loop
-unfolding generatorAt
-returns c =
-    let s = c .before .before .before .before in
-    no-line-found (s .before .loop .inv) (s .loop-test .taken) (c .before .equal .ensures) (c .if1 .taken)
-
-add-k : tie.Need-add-k Inv-loop μ-loop
-add-k c = omega arith
-
-loop-less : tie.Need-loop-less Inv-loop μ-loop
-loop-less c = omega arith
-
-loop-again : tie.Need-loop-again Inv-loop μ-loop
-unfolding generatorAt
-loop-again c =
-    let s = c .before .before .before .before in
-    no-line-more (s .before .loop .inv) (s .loop-test .taken) (c .before .equal .ensures) (c .if1 .left)
-
-returns-2 : tie.Need-returns-2 Inv-loop μ-loop
-returns-2 c = no-line-all (c .before .loop .inv) (c .loop-test .left)
+returns-2 : tie.Need-returns-2
+returns-2 c = lead-none _ _ (place (c .before .before)) (c .if1 .left)
 
 pub line-of-spec : {M : Type 1} → statement M
-line-of-spec =
-    tie.close
-    (tie.spec
-    Inv-loop
-    μ-loop
-    loop-holds
-    mul-g
-    element-copy-out-g
-    element-copy-out-lead
-    equal-requires
-    returns
-    add-k
-    loop-less
-    loop-again
-    returns-2)
+line-of-spec = tie.close (tie.spec key-requires key-place-requires returns returns-2)

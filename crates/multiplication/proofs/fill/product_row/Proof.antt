@@ -1,78 +1,64 @@
 -- `product_row` meets its contract.
-use mathlib.Core.Path.{_≡_}
-use Prim.Native.Nat.{_≤_, _<_}
-use lib.ListN.{length}
+use Prim.Native.Nat.{_<_}
 use Rattle.monomial.specs.Rows.{quotient}
 use Rattle.groebner.proofs.Variables.{variable}
-use Rattle.tabtext.specs.Sizes.{most-standard}
-use Rattle.multiplication.specs.Rows.{cellOf}
 use Rattle.multiplication.specs.Listed.{listed, listedAt, Place, Passes}
-use Rattle.reduction.proofs.Elements.{length-mapped}
-use Rattle.multiplication.proofs.RowRules.{passes-some, divisor-listed, row-product}
+use Rattle.multiplication.proofs.RowSums.{row-below}
 use native.Mathlib.Omega.{arith}
 use borrow.Author.Needs.{needs}
 use Rattle.multiplication.proofs.fill.product_row.Statement.{statement}
 use Rattle.multiplication.proofs.fill.product_row.Tie as tie
 
-full : (c : tie.Start) → c .args .l .count ≤ length (c .args .l .monomials)
-full c = let e : length (c .args .l .monomials) ≡ most-standard = search (length-mapped, needs) in omega (arith, c .pre .1 .few)
+passes-at : (c : tie.After-variable-through) → let a = c .before .before .before .before .args in Passes (a .n) (a .l) (listedAt (a .n) (a .l) (a .s)) (a .i) (c .variable-through .result)
+passes-at c = rw (c .before .listed-at .ensures (c .before .before .before .before .args .n)) at (c .variable-through .ensures .1)
 
-passes-at : (c : tie.After-variable-through) → let a = c .before .before .args in Passes (a .b .n) (a .l) (listedAt (a .b .n) (a .l) (a .s)) (a .i) (c .variable-through .result)
-passes-at c = rw (c .before .listed-at .ensures (c .before .before .args .b .n)) at (c .variable-through .ensures .1)
-
-place-at : (c : tie.After-place-of) → let d = c .before .before in let a = d .before .before .args in
-    Place (a .b .n) (listed (a .b .n) (a .l)) (a .l .count) (quotient (a .b .n) (listedAt (a .b .n) (a .l) (a .s)) (variable (a .b .n) (d .variable-through .result))) (c .place-of .result)
+place-at : (c : tie.After-place-in) → let d = c .before .before in let a = d .before .before .before .before .args in
+    Place (a .n) (listed (a .n) (a .l)) (a .l .count) (quotient (a .n) (listedAt (a .n) (a .l) (a .s)) (variable (a .n) (d .variable-through .result))) (c .place-in .result)
 place-at c = let d = c .before .before in
-    rw (c .before .over-variable .ensures, d .before .listed-at .ensures (d .before .before .args .b .n)) at (c .place-of .ensures)
+    rw (c .before .over-variable .ensures, d .before .listed-at .ensures (d .before .before .before .before .args .n)) at (c .place-in .ensures)
 
-inside : (c : tie.After-place-of) → c .place-of .result < c .before .before .before .before .args .l .count
-inside c =
-    let d = c .before .before in
-    let s = d .before .before in
-    let (sound, li, bt, hi, hs, _, _) = s .pre in
-    divisor-listed _ _ li (full s) (sound .modulus .prime .above-one) _ _ hs _ (passes-at d) _ (place-at c)
+inside : (c : tie.After-place-in) → c .place-in .result < c .before .before .before .before .before .before .args .l .count
+inside c = c .before .before .before .before .before .before .pre .8 .inside _ (passes-at (c .before .before)) _ (place-at c)
 
 listed-at-requires : tie.Need-listed-at-requires
 listed-at-requires c κs = search needs
 
 variable-through-requires : tie.Need-variable-through-requires
 variable-through-requires c κs =
-    let s = c .before in
-    let (sound, li, bt, hi, hs, red, other) = s .pre in
-    let h = sound .modulus .prime .above-one in (
-      sound .variables .1,
-      li .few,
-      hi,
-      λ k m. rw (c .listed-at .ensures (s .args .b .n)) (li .exponents (s .args .s) hs k m),
-      rw (c .listed-at .ensures (s .args .b .n)) (passes-some _ _ li (full s) h (cellOf _ h (s .args .t)) _ _ hi hs (red h) (other h)),
-    )
+    let s = c .before .before .before in
+    let (_, _, keys, l, _, _, i, h, through) = s .pre in
+    (keys, l .variables, i, λ k m. rw (c .listed-at .ensures (s .args .n)) (l .exponents (s .args .s) h k m), rw (c .listed-at .ensures (s .args .n)) (through .some))
 
 over-variable-requires : tie.Need-over-variable-requires
 over-variable-requires c κs = search needs
 
-place-of-requires : tie.Need-place-of-requires
-place-of-requires c κs = search needs
+place-in-requires : tie.Need-place-in-requires
+place-in-requires c κs = search needs
 
-row-requires : tie.Need-row-requires
-row-requires c κs =
-    let s = c .before .before .before .before in
-    (omega (arith, s .pre .0 .variables .1), omega (arith, inside c, s .pre .1 .few))
+row-of-requires : tie.Need-row-of-requires
+row-of-requires c κs =
+    let s = c .before .before .before .before .before .before in
+    let (e, _, _, l, _, _, i, _, _) = s .pre in
+    (e, omega (arith, l .variables), omega (arith, inside c, l .few))
 
 apply-requires : tie.Need-apply-requires
 apply-requires c κs =
     let d = c .before .before .before in
-    let (sound, li, bt, _, _, _, _) = d .before .before .pre in
-    let h = sound .modulus .prime .above-one in
-    (omega (arith, d .variable-through .ensures .0, sound .variables .1), li .few, omega arith, sound .modulus .size, bt, rw (c .row .ensures) (bt .row _ _))
+    let (e, b, _, l, o, m, _, _, _) = d .before .before .before .before .pre in
+    (e, omega (arith, d .variable-through .ensures .0, l .variables), l .few, o, m, b, row-below (c .row-of .ensures) o b)
 
 returns : tie.Need-returns
 returns c =
-    let d = c .before .before .before .before in
-    let s = d .before .before in
-    let (sound, li, bt, hi, hs, _, _) = s .pre in
+    let v = c .before .before .before .before in
     record {
-      below = c .apply .ensures .below;
-      rule = λ h. row-product _ _ li (full s) h _ _ hs _ (passes-at d) _ (place-at (c .before .before)) (d .variable-through .ensures .0) (li .few) _ _ (rw (c .before .row .ensures) at (c .apply .ensures));
+      by = v .variable-through .result;
+      at = c .before .before .place-in .result;
+      row = c .before .row-of .result;
+      within = v .variable-through .ensures .0;
+      passes = passes-at v;
+      place = place-at (c .before .before);
+      is = c .before .row-of .ensures;
+      multiplied = c .apply .ensures;
     }
 
 pub product-row-spec : {M : Type 1} → statement M
@@ -82,7 +68,7 @@ product-row-spec =
     listed-at-requires
     variable-through-requires
     over-variable-requires
-    place-of-requires
-    row-requires
+    place-in-requires
+    row-of-requires
     apply-requires
     returns)

@@ -1,114 +1,73 @@
 -- `row_for` meets its contract.
-use mathlib.Core.Path.{_≡_}
-use Prim.Native.Nat.{_≤_}
-use native.Mathlib.Omega.{arith}
-use lib.ListN.{length}
+use mathlib.Core.Path.{_≡_, sym, _∙_}
 use Rattle.monomial.specs.Rows.{product}
 use Rattle.monomial.specs.Represented.{row}
 use Rattle.groebner.proofs.Variables.{variable}
-use Rattle.tabtext.specs.Sizes.{most-standard, most-lines}
-use Rattle.reduction.specs.Sound.{generatorAt}
-use Rattle.multiplication.specs.Rows.{cellOf}
 use Rattle.multiplication.specs.Listed.{listedAt}
-use Rattle.reduction.proofs.Elements.{length-mapped}
+use Rattle.multiplication.specs.Rules.MadeBy.{by-unit, by-tail, by-product}
 use Rattle.multiplication.proofs.UnitRows.{indicator-below}
-use Rattle.multiplication.proofs.RowRules.{listed-once, place-outside, row-unit, row-tail, no-lead}
+use native.Mathlib.Omega.{arith}
 use borrow.Author.Needs.{needs}
 use Rattle.multiplication.proofs.fill.row_for.Statement.{statement}
 use Rattle.multiplication.proofs.fill.row_for.Tie as tie
 
-full : (c : tie.Start) → c .args .l .count ≤ length (c .args .l .monomials)
-full c = let e : length (c .args .l .monomials) ≡ most-standard = search (length-mapped, needs) in omega (arith, c .pre .1 .few)
+product-at : (c : tie.After-times-variable) → let a = c .before .before .before .before .before .args in
+    row (a .n) (c .times-variable .result) ≡ product (a .n) (variable (a .n) (a .i)) (listedAt (a .n) (a .l) (a .s))
+product-at c = rw (c .before .listed-at .ensures (c .before .before .before .before .before .args .n)) at (c .times-variable .ensures)
 
-lines : (c : tie.Start) → c .args .t1 .lines ≤ length (c .args .t1 .generators)
-lines c = let e : length (c .args .t1 .generators) ≡ most-lines = search (length-mapped, needs) in omega (arith, c .pre .0 .few)
+tail-row-requires : tie.Need-tail-row-requires
+tail-row-requires c κs =
+    let (_, _, keys, l, d, _, m, _, _, line, _) = c .before .before .before .pre in
+    (keys, line (c .if1 .taken), d, l .variables, l .few, m)
 
-product-at : (c : tie.After-times-variable) → let a = c .before .before .args in
-    row (a .t1 .n) (c .times-variable .result) ≡ product (a .t1 .n) (variable (a .t1 .n) (a .i)) (listedAt (a .t1 .n) (a .l) (a .s))
-product-at c = rw (c .before .listed-at .ensures (c .before .before .args .t1 .n)) at (c .times-variable .ensures)
+returns : tie.Need-returns
+returns c = record { below = c .tail-row .ensures .below; made = by-tail (c .before .if1 .taken) (c .tail-row .ensures) }
 
 listed-at-requires : tie.Need-listed-at-requires
 listed-at-requires c κs = search needs
 
 times-variable-requires : tie.Need-times-variable-requires
 times-variable-requires c κs =
-    let s = c .before in
-    let (sound, li, bt, hi, hs) = s .pre in
-    (sound .variables .1, hi, λ k m. rw (c .listed-at .ensures (s .args .t1 .n)) (li .exponents (s .args .s) hs k m))
+    let s = c .before .before .before .before in
+    let (_, _, _, l, _, _, _, i, h, _, _) = s .pre in
+    (l .variables, i, λ k m. rw (c .listed-at .ensures (s .args .n)) (l .exponents (s .args .s) h k m))
 
-place-of-requires : tie.Need-place-of-requires
-place-of-requires c κs = search needs
+place-in-requires : tie.Need-place-in-requires
+place-in-requires c κs = search needs
 
 unit-requires : tie.Need-unit-requires
 unit-requires c κs = search needs
 
-returns : tie.Need-returns
-returns c =
-    let d = c .before .before .before in
-    let s = d .before .before .before in
-    let (sound, li, bt, hi, hs) = s .pre in
-    record {
-      below = record { below = λ k. rw (c .unit .ensures k) (indicator-below _ _ _ (sound .modulus .prime .above-one)) };
-      rule = λ h. row-unit _ _ li (full s) h (cellOf _ h (s .args .t)) _ _ (product-at (d .before)) _ (d .place-of .ensures) (c .before .if1 .taken) _ (c .unit .ensures);
-    }
-
-line-of-requires : tie.Need-line-of-requires
-line-of-requires c κs = search needs
-
-mul-line : tie.Need-mul-line
-mul-line c = search needs
-
-element-copy-out-line : tie.Need-element-copy-out-line
-element-copy-out-line c = search needs
-
-tail-row-requires : tie.Need-tail-row-requires
-unfolding generatorAt
-tail-row-requires c κs =
-    let s = c .before .before .before .before .before .before .before .before in
-    let (sound, li, bt, hi, hs) = s .pre in
-    (sound .lines _ (c .before .if2 .taken), listed-once _ _ li (full s) (sound .modulus .prime .above-one), sound .variables .1, li .few, sound .modulus .size)
-
 returns-2 : tie.Need-returns-2
-unfolding generatorAt
 returns-2 c =
     let d = c .before .before .before in
-    let s = d .before .before .before .before .before .before in
-    let (sound, li, bt, hi, hs) = s .pre in
+    let t = d .before in
+    let (_, _, _, _, _, above-one, _, _, _, _, _) = t .before .before .before .before .before .pre in
     record {
-      below = c .tail-row .ensures .below;
-      rule = λ h. row-tail _ _ li (full s) h (cellOf _ h (s .args .t)) _ _ sound (lines s) (product-at (d .before .before .before .before)) _ (d .line-of .ensures) (c .before .before .if2 .taken) (c .tail-row .ensures);
+      below = record { below = λ k. rw (c .unit .ensures k) (indicator-below _ _ _ above-one) };
+      made = by-unit (d .place-in .result) (c .before .if2 .taken) (d .place-in .ensures .found (c .before .if2 .taken) ∙ product-at t) (c .unit .ensures);
     }
 
 product-row-requires : tie.Need-product-row-requires
 product-row-requires c κs =
-    let d = c .before .before .before .before in
-    let s = d .before .before .before in
-    let (sound, li, bt, hi, hs) = s .pre in (
-      sound,
-      li,
-      bt,
-      hi,
-      hs,
-      λ h. rw (product-at (d .before)) at (place-outside _ _ li (full s) h _ (d .place-of .ensures) (c .before .before .if1 .left)),
-      λ h. no-lead _ _ li (full s) h (cellOf _ h (s .args .t)) _ _ sound (lines s) (product-at (d .before)) _ (c .before .line-of .ensures) (c .if2 .left),
-    )
+    let d = c .before .before in
+    let t = d .before in
+    let (e, b, keys, l, _, above-one, m, i, s, _, through) = t .before .before .before .before .before .pre in
+    (e, b, keys, l, omega arith, m, i, s, through (t .before .before .if1 .left) (λ k u q. d .place-in .ensures .first k (omega arith) (q ∙ sym (product-at t))))
 
 returns-3 : tie.Need-returns-3
-returns-3 c = search needs
+returns-3 c = record { below = c .product-row .ensures .multiplied .below; made = by-product (c .before .before .before .before .before .before .if1 .left) (c .product-row .ensures) }
 
 pub row-for-spec : {M : Type 1} → statement M
 row-for-spec =
     tie.close
     (tie.spec
+    tail-row-requires
+    returns
     listed-at-requires
     times-variable-requires
-    place-of-requires
+    place-in-requires
     unit-requires
-    returns
-    line-of-requires
-    mul-line
-    element-copy-out-line
-    tail-row-requires
     returns-2
     product-row-requires
     returns-3)

@@ -8,16 +8,17 @@ use borrow.Author.Needs.{needs}
 use Rattle.multiplication.proofs.fill.subtract_at.Statement.{statement}
 use Rattle.multiplication.proofs.fill.subtract_at.Tie as tie
 
-at-requires : tie.Need-at-requires
-at-requires c κs = search needs
+mul-a : tie.Need-mul-a
+mul-a c = search needs
+
+element-copy-out-a : tie.Need-element-copy-out-a
+element-copy-out-a c = search needs
 
 sub-requires : tie.Need-sub-requires
-sub-requires c κs =
-    let (b, h, m, l) = c .before .before .pre in
-    (rw (c .at .ensures) (b .below _), h, m)
+sub-requires c κs = let (b, h, m, l) = c .before .before .pre in (b .below _, h, m)
 
-mul-t11 : tie.Need-mul-t11
-mul-t11 c = search needs
+mul-t9 : tie.Need-mul-t9
+mul-t9 c = search needs
 
 element-set-from-r : tie.Need-element-set-from-r
 element-set-from-r c = search needs
@@ -27,11 +28,12 @@ returns c =
     let s = c .before .before .before in
     let (b, h, m, l) = s .pre in
     let size : length (s .args .t1 .c) ≡ most-standard = search (length-mapped, needs) in
-    subtracted-at b size (c .before .before .if1 .taken) l (rw (c .before .at .ensures) at (c .sub .ensures))
+    subtracted-at b size (c .before .before .if1 .taken) l (c .sub .ensures)
 
 returns-2 : tie.Need-returns-2
 returns-2 c = subtracted-none (c .before .pre .0) (c .if1 .left)
 
 pub subtract-at-spec : {M : Type 1} → statement M
 subtract-at-spec =
-    tie.close (tie.spec at-requires sub-requires mul-t11 element-set-from-r returns returns-2)
+    tie.close
+    (tie.spec mul-a element-copy-out-a sub-requires mul-t9 element-set-from-r returns returns-2)

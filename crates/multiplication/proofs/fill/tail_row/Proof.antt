@@ -11,19 +11,19 @@ use Rattle.multiplication.proofs.fill.tail_row.Statement.{statement}
 use Rattle.multiplication.proofs.fill.tail_row.Tie as tie
 
 abbrev Inv-loop : tie.InvT-loop
-Inv-loop l n p g r₀ k₀ r k = Gathered p n g l r k
+Inv-loop keys l n p g r₀ k₀ r k = Gathered p n g l r k
 
 abbrev μ-loop : tie.MeasureT-loop
-μ-loop l n p g r₀ k₀ r k = k
+μ-loop keys l n p g r₀ k₀ r k = k
 
 zero-requires : tie.Need-zero-requires Inv-loop μ-loop
 zero-requires c κs = search needs
 
 loop-holds : tie.Need-loop-holds Inv-loop μ-loop
 loop-holds c =
-    let s = c .before in
-    let size : length (s .args .t1 .monomials) ≡ most-terms = search (length-mapped, needs) in
-    gathered-none (omega (arith, s .pre .0 .coefficients 0 (s .pre .0 .some) .1)) (s .pre .0) (omega (arith, s .pre .0 .few)) (c .zero .ensures)
+    let s = c .before .before in
+    let size : length (s .args .t2 .monomials) ≡ most-terms = search (length-mapped, needs) in
+    gathered-none (omega (arith, s .pre .1 .coefficients 0 (s .pre .1 .some) .1)) (s .pre .1) (omega (arith, s .pre .1 .few)) (c .zero .ensures)
 
 sub-k : tie.Need-sub-k Inv-loop μ-loop
 sub-k c = omega arith
@@ -40,13 +40,13 @@ mul-c c = omega (arith, gathered-place (c .before .before .loop .inv) (c .before
 element-copy-out-c : tie.Need-element-copy-out-c Inv-loop μ-loop
 element-copy-out-c c = gathered-place (c .before .before .loop .inv) (c .before .loop-test .taken)
 
-place-of-requires : tie.Need-place-of-requires Inv-loop μ-loop
-place-of-requires c κs = let s = c .before .before .before .before .before in (s .pre .2, s .pre .3)
+place-in-requires : tie.Need-place-in-requires Inv-loop μ-loop
+place-in-requires c κs = let s = c .before .before .before .before .before .before in (s .pre .3, s .pre .0)
 
 subtract-at-requires : tie.Need-subtract-at-requires Inv-loop μ-loop
 subtract-at-requires c κs =
     let s = c .before .before .before in
-    let (_, _, _, l, m) = s .before .before .before .pre in
+    let (_, _, _, _, l, m) = s .before .before .before .before .pre in
     (s .before .loop .inv .below, gathered-small (s .before .loop .inv) (s .loop-test .taken), m, l)
 
 loop-less : tie.Need-loop-less Inv-loop μ-loop
@@ -55,7 +55,7 @@ loop-less c = omega arith
 loop-again : tie.Need-loop-again Inv-loop μ-loop
 loop-again c =
     let s = c .before .before .before .before in
-    gathered-more (s .before .loop .inv) (s .loop-test .taken) (s .before .before .before .pre .1) (c .before .place-of .ensures) (c .subtract-at .ensures)
+    gathered-more (s .before .loop .inv) (s .loop-test .taken) (s .before .before .before .before .pre .2) (c .before .place-in .ensures) (c .subtract-at .ensures)
 
 returns : tie.Need-returns Inv-loop μ-loop
 returns c = gathered-all (c .before .loop .inv) (c .loop-test .left)
@@ -73,7 +73,7 @@ tail-row-spec =
     element-copy-out-m
     mul-c
     element-copy-out-c
-    place-of-requires
+    place-in-requires
     subtract-at-requires
     loop-less
     loop-again

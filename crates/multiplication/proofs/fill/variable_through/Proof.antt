@@ -7,18 +7,18 @@ use Rattle.multiplication.proofs.fill.variable_through.Statement.{state
 use Rattle.multiplication.proofs.fill.variable_through.Tie as tie
 
 abbrev Inv-loop : tie.InvT-loop
-Inv-loop l m i n j₀ j = Blocked n l (row n m) i j
+Inv-loop keys l m i n j₀ j = Blocked n l (row n m) i j
 
 abbrev μ-loop : tie.MeasureT-loop
-μ-loop l m i n j₀ j = n - j
+μ-loop keys l m i n j₀ j = n - j
 
 loop-holds : tie.Need-loop-holds Inv-loop μ-loop
 loop-holds c = blocked-none
 
 passes-requires : tie.Need-passes-requires Inv-loop μ-loop
 passes-requires c κs =
-    let (n, l, i, f, _) = c .before .before .pre in
-    (n, l, i, c .loop-test .taken, f)
+    let (keys, n, i, f, _) = c .before .before .before .pre in
+    (keys, n, i, c .loop-test .taken, f)
 
 returns : tie.Need-returns Inv-loop μ-loop
 returns c = (c .before .before .loop-test .taken, c .before .passes .ensures .0 (c .if1 .taken))
@@ -33,7 +33,7 @@ loop-again : tie.Need-loop-again Inv-loop μ-loop
 loop-again c = blocked-more (c .before .before .before .loop .inv) (c .before .before .loop-test .taken) (c .before .passes .ensures) (c .if1 .left)
 
 returns-2 : tie.Need-returns-2 Inv-loop μ-loop
-returns-2 c = absurd (blocked-all (c .before .loop .inv) (c .loop-test .left) (c .before .before .pre .4))
+returns-2 c = absurd (blocked-all (c .before .loop .inv) (c .loop-test .left) (c .before .before .before .pre .4))
 
 pub variable-through-spec : {M : Type 1} → statement M
 variable-through-spec =

@@ -1,20 +1,17 @@
 -- `equal` meets its contract.
-use Rattle.multiplication.proofs.EqualMonomials.{divides-back, divides-not}
+use Rattle.multiplication.proofs.KeyPlaces.{key-same}
 use borrow.Author.Needs.{needs}
 use Rattle.multiplication.proofs.place.equal.Statement.{statement}
 use Rattle.multiplication.proofs.place.equal.Tie as tie
 
-divides-requires : tie.Need-divides-requires
-divides-requires c κs = search needs
+key-requires : tie.Need-key-requires
+key-requires c κs = search needs
 
-divides-requires-2 : tie.Need-divides-requires-2
-divides-requires-2 c κs = search needs
+key-requires-2 : tie.Need-key-requires-2
+key-requires-2 c κs = search needs
 
 returns : tie.Need-returns
-returns c = divides-back _ _ _ (c .before .before .divides .ensures) (c .before .if1 .taken) (c .divides2 .ensures)
-
-returns-2 : tie.Need-returns-2
-returns-2 c = divides-not _ _ _ (c .before .divides .ensures) (c .if1 .left)
+returns c = key-same _ (c .before .before .pre) (c .before .key .ensures) (c .key2 .ensures)
 
 pub equal-spec : {M : Type 1} → statement M
-equal-spec = tie.close (tie.spec divides-requires divides-requires-2 returns returns-2)
+equal-spec = tie.close (tie.spec key-requires key-requires-2 returns)
