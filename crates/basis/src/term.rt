@@ -60,7 +60,7 @@ fn monomial_of(exponents: [u32; MAX_VARIABLES], n: usize) -> Monomial
     let mut m = Monomial::one();
     let mut i: usize = 0;
     while i < n {
-        m.e[i] = Exponent(exponents[i] as u16);
+        m.e[i] = Exponent(exponents[i] as u8);
         i += 1;
     }
     m

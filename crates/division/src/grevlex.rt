@@ -89,7 +89,7 @@ fn with_exponent(mut m: Monomial, i: usize, x: usize) -> Monomial
     ensures here { λ r. ⌜ ((n : ℕ) → i < n → exponent n (row n r) i ≡ x) ⌝ }
     ensures elsewhere { λ r. ⌜ ((n j : ℕ) → j < n → ¬ (j ≡ i) → exponent n (row n r) j ≡ exponent n (row n m) j) ⌝ }
 {
-    m.e[i] = Exponent(x as u16);
+    m.e[i] = Exponent(x as u8);
     m
 }
 

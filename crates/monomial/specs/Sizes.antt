@@ -12,6 +12,6 @@ most-variables = 4
 abbrev pub most-exponent : ℕ
 most-exponent = 32
 
--- What 16 bits hold.
+-- What 8 bits hold.
 abbrev pub most-entry : ℕ
-most-entry = 65535
+most-entry = 255

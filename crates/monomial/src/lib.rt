@@ -21,7 +21,7 @@ pub const MAX_VARIABLES: usize = 4;
 // The largest exponent of a text, which the definitions have as most-exponent.
 pub const MAX_EXPONENT: u16 = 32;
 
-pub struct Exponent(pub u16);
+pub struct Exponent(pub u8);
 
 pub struct Monomial {
     pub e: [Exponent; MAX_VARIABLES],

@@ -88,10 +88,7 @@ fn line_of(keys: &[u64], leads: Leads, m: Monomial, n: usize) -> LinePlace
 {
     let k = key_place(keys, leads.count, key(m, n));
     if k < leads.count {
-        LinePlace {
-            found: true,
-            at: k,
-        }
+        LinePlace { found: true, at: k }
     } else {
         LinePlace {
             found: false,
@@ -140,7 +137,15 @@ fn variable_through(keys: &[u64], l: Irreducibles, m: Monomial, i: usize, n: usi
 }
 
 // The row of x_i·B_s, which is neither listed nor a leading monomial: with B_s = x_j·c and x_i·c reducible it is x_j times the row of x_i·c.
-fn product_row(cells: &[u16], keys: &[u64], l: Irreducibles, i: usize, s: usize, n: usize, p: u16) -> Coordinates
+fn product_row(
+    cells: &[u16],
+    keys: &[u64],
+    l: Irreducibles,
+    i: usize,
+    s: usize,
+    n: usize,
+    p: u16,
+) -> Coordinates
     requires { ⌜
         (length (now cells) ≡ most-cells) × AllBelow p (tablesOf (now cells)) × KeysOf n (listed n l) (l .count) (now keys) × Listing n l × (0 < p) × (p ≤ largest-modulus) × (i < n) × (s < l .count)
         × Through n l i s
@@ -253,7 +258,5 @@ pub fn fill(b: Basis, l: Irreducibles) -> Tables
         c.at[i] = s + 1;
         i = smallest(l, c, b.n);
     }
-    Tables {
-        cells,
-    }
+    Tables { cells }
 }

@@ -37,9 +37,6 @@ cast-t12 c =
     let h : s .loop .i < k .args .n = omega arith in
     omega (arith, each-take (λ e. e ≤ most-exponent) 0 _ _ (s .loop .inv .1) .0 (k .pre .1) (s .loop .i) h)
 
-mul-t14 : tie.Need-mul-t14 Inv-loop μ-loop
-mul-t14 c = search needs
-
 element-set-from-m : tie.Need-element-set-from-m Inv-loop μ-loop
 element-set-from-m c = search needs
 
@@ -70,7 +67,6 @@ monomial-of-spec =
     mul-t8
     array-read-t11
     cast-t12
-    mul-t14
     element-set-from-m
     add-i
     loop-less

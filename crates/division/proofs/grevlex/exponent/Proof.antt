@@ -6,9 +6,6 @@ use borrow.Author.Needs.{needs}
 use Rattle.division.proofs.grevlex.exponent.Statement.{statement}
 use Rattle.division.proofs.grevlex.exponent.Tie as tie
 
-mul-number : tie.Need-mul-number
-mul-number c = search needs
-
 element-copy-out-number : tie.Need-element-copy-out-number
 element-copy-out-number c = search needs
 
@@ -23,4 +20,4 @@ returns c = (
 )
 
 pub exponent-spec : {M : Type 1} → statement M
-exponent-spec = tie.close (tie.spec mul-number element-copy-out-number number-requires returns)
+exponent-spec = tie.close (tie.spec element-copy-out-number number-requires returns)

@@ -11,9 +11,6 @@ use Rattle.division.proofs.grevlex.with_exponent.Tie as tie
 cast-t5 : tie.Need-cast-t5
 cast-t5 c = search needs
 
-mul-t7 : tie.Need-mul-t7
-mul-t7 c = search needs
-
 element-set-from-m : tie.Need-element-set-from-m
 element-set-from-m c = search needs
 
@@ -26,4 +23,4 @@ returns c =
     (λ n h. stored-here n l i _ h g, λ n j h d. stored-elsewhere n l i _ j h d)
 
 pub with-exponent-spec : {M : Type 1} → statement M
-with-exponent-spec = tie.close (tie.spec cast-t5 mul-t7 element-set-from-m returns)
+with-exponent-spec = tie.close (tie.spec cast-t5 element-set-from-m returns)

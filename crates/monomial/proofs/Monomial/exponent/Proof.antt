@@ -6,9 +6,6 @@ use Rattle.monomial.proofs.Places.{exponent-row}
 use Rattle.monomial.proofs.Monomial.exponent.Statement.{statement}
 use Rattle.monomial.proofs.Monomial.exponent.Tie as tie
 
-mul-result : tie.Need-mul-result
-mul-result c = search needs
-
 element-copy-out-result : tie.Need-element-copy-out-result
 element-copy-out-result c = search needs
 
@@ -17,4 +14,4 @@ unfolding row
 returns c n h = sym (exponent-row n (c .before .args .i) (c .before .args .t1 .e) h)
 
 pub exponent-spec : {M : Type 1} → statement M
-exponent-spec = tie.close (tie.spec mul-result element-copy-out-result returns)
+exponent-spec = tie.close (tie.spec element-copy-out-result returns)

@@ -31,9 +31,6 @@ exponent-requires-2 c κs = omega arith
 larger-requires : tie.Need-larger-requires Inv-loop μ-loop
 larger-requires c κs = search needs
 
-mul-t11 : tie.Need-mul-t11 Inv-loop μ-loop
-mul-t11 c = search needs
-
 element-set-from-m : tie.Need-element-set-from-m Inv-loop μ-loop
 element-set-from-m c = search needs
 
@@ -67,7 +64,6 @@ lcm-spec =
     exponent-requires
     exponent-requires-2
     larger-requires
-    mul-t11
     element-set-from-m
     add-i
     loop-less

@@ -37,9 +37,6 @@ minus-requires c κs =
     let q = c .exponent2 .ensures n h in
     omega (arith, p, q, s .before .before .pre .1 (s .loop .i) h)
 
-mul-t11 : tie.Need-mul-t11 Inv-loop μ-loop
-mul-t11 c = search needs
-
 element-set-from-m : tie.Need-element-set-from-m Inv-loop μ-loop
 element-set-from-m c = search needs
 
@@ -73,7 +70,6 @@ quotient-spec =
     exponent-requires
     exponent-requires-2
     minus-requires
-    mul-t11
     element-set-from-m
     add-i
     loop-less

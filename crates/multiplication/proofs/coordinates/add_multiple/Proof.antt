@@ -67,7 +67,7 @@ loop-less : tie.Need-loop-less Inv-loop μ-loop
 loop-less c = search needs
 
 loop-again : tie.Need-loop-again Inv-loop μ-loop
-loop-again c = 
+loop-again c =
     let s = c .before .before .before in
     let l = s .loop in
     (omega arith, stored-more _ _ _ _ (l .k) _ (l .inv .1) (omega (arith, s .before .before .pre .0)) (ap (_+ (s .before .before .args .c * getD (s .before .before .args .cells .now) (s .before .before .args .at + l .k) 0)) (l .inv .1 .kept (l .k) (omega arith))))

@@ -105,11 +105,19 @@ row-for-requires c κs =
     let s = origin d in
     let (sound, li, low) = s .pre in
     let (filling, best) = d .loop .inv in
-    let u = f .before .before .before .loop-test .taken in
-    (filling .size, filling .below, d .before .before .before .before .before .before .before .put-keys .ensures, listing s, listed-once _ _ li (full s) (sound .modulus .prime .above-one),
-    sound .modulus .prime .above-one, sound .modulus .size, u, best .some u,
-    λ e. sound .lines _ (omega (arith, f .line-for .ensures .found e .0, leads-are d .0)),
-    comes-through _ sound _ li (full s) (lines s) _ (leads-are d) (tablesOf (d .loop .cells)) _ _ u (best .some u) (f .line-for .ensures))
+    let u = f .before .before .before .loop-test .taken in (
+      filling .size,
+      filling .below,
+      d .before .before .before .before .before .before .before .put-keys .ensures,
+      listing s,
+      listed-once _ _ li (full s) (sound .modulus .prime .above-one),
+      sound .modulus .prime .above-one,
+      sound .modulus .size,
+      u,
+      best .some u,
+      λ e. sound .lines _ (omega (arith, f .line-for .ensures .found e .0, leads-are d .0)),
+      comes-through _ sound _ li (full s) (lines s) _ (leads-are d) (tablesOf (d .loop .cells)) _ _ u (best .some u) (f .line-for .ensures),
+    )
 
 slice-aggregate-put-row : tie.Need-slice-aggregate-put-row Inv-loop μ-loop
 slice-aggregate-put-row c = search needs
@@ -148,9 +156,11 @@ loop-again c =
     let s = origin d in
     let (sound, li, low) = s .pre in
     let (filling, best) = d .loop .inv in
-    let u = t .loop-test .taken in
-    (filling-more filling sound li (full s) best u low (row-made _ sound _ li (full s) (lines s) _ (leads-are d) (tablesOf (d .loop .cells)) _ _ u (best .some u) (f .line-for .ensures) (r .row-for .ensures))
-    (search needs) (c .before .before .put-row .ensures), c .smallest2 .ensures)
+    let u = t .loop-test .taken in (
+      filling-more filling sound li (full s) best u low (row-made _ sound _ li (full s) (lines s) _ (leads-are d) (tablesOf (d .loop .cells)) _ _ u (best .some u) (f .line-for .ensures) (r .row-for .ensures))
+          (search needs) (c .before .before .put-row .ensures),
+      c .smallest2 .ensures,
+    )
 
 returns : tie.Need-returns Inv-loop μ-loop
 returns c =

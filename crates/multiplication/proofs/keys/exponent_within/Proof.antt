@@ -8,9 +8,6 @@ use borrow.Author.Needs.{needs}
 use Rattle.multiplication.proofs.keys.exponent_within.Statement.{statement}
 use Rattle.multiplication.proofs.keys.exponent_within.Tie as tie
 
-mul-e : tie.Need-mul-e
-mul-e c = search needs
-
 element-copy-out-e : tie.Need-element-copy-out-e
 element-copy-out-e c = search needs
 
@@ -25,4 +22,4 @@ returns-2 : tie.Need-returns-2
 returns-2 c = (sym (exponent-past _ _ _ (c .if1 .left)), omega arith)
 
 pub exponent-within-spec : {M : Type 1} → statement M
-exponent-within-spec = tie.close (tie.spec mul-e element-copy-out-e cast-result returns returns-2)
+exponent-within-spec = tie.close (tie.spec element-copy-out-e cast-result returns returns-2)

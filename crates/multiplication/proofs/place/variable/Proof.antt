@@ -7,9 +7,6 @@ use Rattle.multiplication.proofs.place.variable.Tie as tie
 one-requires : tie.Need-one-requires
 one-requires c κs = search needs
 
-mul-t5 : tie.Need-mul-t5
-mul-t5 c = search needs
-
 element-set-from-m : tie.Need-element-set-from-m
 element-set-from-m c = search needs
 
@@ -17,4 +14,4 @@ returns : tie.Need-returns
 returns c = variable-stored _ (c .before .pre) (c .one .ensures)
 
 pub variable-spec : {M : Type 1} → statement M
-variable-spec = tie.close (tie.spec one-requires mul-t5 element-set-from-m returns)
+variable-spec = tie.close (tie.spec one-requires element-set-from-m returns)

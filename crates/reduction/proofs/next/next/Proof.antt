@@ -31,9 +31,6 @@ mul-v c = omega arith
 element-copy-out-v : tie.Need-element-copy-out-v Inv-loop μ-loop
 element-copy-out-v c = omega arith
 
-mul-t10 : tie.Need-mul-t10 Inv-loop μ-loop
-mul-t10 c = omega (arith, variable-within (c .before .before .loop .inv) (omega arith))
-
 element-copy-out-t16 : tie.Need-element-copy-out-t16 Inv-loop μ-loop
 element-copy-out-t16 c = omega (arith, variable-within (c .before .before .loop .inv) (omega arith))
 
@@ -43,9 +40,6 @@ add-t17 c =
     let l = variable-within (s .loop .inv) (omega arith) in
     omega (arith, variable-exponent (s .loop .inv) (omega arith), s .before .pre .4 _ l)
 
-mul-r : tie.Need-mul-r Inv-loop μ-loop
-mul-r c = omega (arith, variable-within (c .before .before .loop .inv) (omega arith))
-
 element-set-from-r : tie.Need-element-set-from-r Inv-loop μ-loop
 element-set-from-r c = omega (arith, variable-within (c .before .before .loop .inv) (omega arith))
 
@@ -54,9 +48,6 @@ multiple-requires c κs = omega arith
 
 returns : tie.Need-returns Inv-loop μ-loop
 returns c = cleared-found (c .before .before .before .before .loop .inv) (omega arith) (c .before .multiple .ensures) (not-true _ (c .if1 .taken))
-
-mul-t13 : tie.Need-mul-t13 Inv-loop μ-loop
-mul-t13 c = omega (arith, variable-within (c .before .before .before .before .loop .inv) (omega arith))
 
 element-set-from-r-2 : tie.Need-element-set-from-r-2 Inv-loop μ-loop
 element-set-from-r-2 c = omega (arith, variable-within (c .before .before .before .before .loop .inv) (omega arith))
@@ -80,14 +71,11 @@ next-spec =
     sub-i
     mul-v
     element-copy-out-v
-    mul-t10
     element-copy-out-t16
     add-t17
-    mul-r
     element-set-from-r
     multiple-requires
     returns
-    mul-t13
     element-set-from-r-2
     loop-less
     loop-again

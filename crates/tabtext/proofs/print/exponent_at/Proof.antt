@@ -5,9 +5,6 @@ use Rattle.tabtext.proofs.Values.{row-at}
 use Rattle.tabtext.proofs.print.exponent_at.Statement.{statement}
 use Rattle.tabtext.proofs.print.exponent_at.Tie as tie
 
-mul-value : tie.Need-mul-value
-mul-value c = search needs
-
 element-copy-out-value : tie.Need-element-copy-out-value
 element-copy-out-value c = search needs
 
@@ -18,4 +15,4 @@ returns : tie.Need-returns
 returns c = (λ n h. c .value .ensures .0 ∙ sym (row-at n _ _ h), c .value .ensures .1)
 
 pub exponent-at-spec : {M : Type 1} → statement M
-exponent-at-spec = tie.close (tie.spec mul-value element-copy-out-value value-requires returns)
+exponent-at-spec = tie.close (tie.spec element-copy-out-value value-requires returns)
