@@ -4,7 +4,6 @@
 use mathlib.Core.Path.{_≡_, sym, _∙_, ap}
 use mathlib.Core.Logic.{_↔_}
 use Prim.Native.Nat.{ℕ, _<_, _≤_}
-use native.Mathlib.Omega.{arith}
 use Rattle.residue.specs.Field.{modulo}
 use Rattle.tabtext.specs.Sizes.{most-standard}
 use Rattle.groebner.proofs.MultiplicationRows.{RowsCommute}

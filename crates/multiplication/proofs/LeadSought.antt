@@ -1,7 +1,7 @@
 -- The answer of `line_of`: a monomial, sought among the leading monomials of a basis.
 --   lead-found    its place is that of a line
 --   lead-none     it has none
-use mathlib.Core.Path.{_≡_, sym}
+use mathlib.Core.Path.{sym}
 use mathlib.Core.Bool.{true, false, false≢true}
 use Prim.Native.Nat.{ℕ, _≤_, _<_}
 use native.Mathlib.Omega.{arith}

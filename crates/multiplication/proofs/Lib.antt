@@ -8,6 +8,7 @@
 --   RowFilling     the rows of the products x_i·B_s, filled in rising order
 --   EqualMonomials monomials of the code that are equal as rows
 --   KeyPlaces      keys of monomials, and their places
+--   KeyOrder       degrees and keys decide grevlex
 --   Sought         the loop of `place_of`
 --   LeadSought     the answer of `line_of`
 --   TailTerms      the tail of a line of the code, term by term
@@ -20,6 +21,7 @@
 --   Sorting        the loop of `by_grevlex`
 --   SortedLists    what a sorted list has of the list that it was made of
 --   IrreducibleLists   the sorted list of the irreducible monomials
+--   NextProducts   the next products that the code holds
 --   Merging        the merge of the next products
 --   AllRows        the loop of `fill`
 --   TailRows       the loop of `tail_row`
@@ -33,6 +35,7 @@ pub mod CommutingRows
 pub mod RowFilling
 pub mod EqualMonomials
 pub mod KeyPlaces
+pub mod KeyOrder
 pub mod Sought
 pub mod LeadSought
 pub mod TailTerms
@@ -46,6 +49,7 @@ pub mod Selecting
 pub mod Sorting
 pub mod SortedLists
 pub mod IrreducibleLists
+pub mod NextProducts
 pub mod Merging
 pub mod AllRows
 pub mod GroebnerTest

@@ -33,7 +33,10 @@ fn same(a: Coordinates, b: Coordinates, d: usize) -> bool
 
 // Whether x_i·(x_j·B_s) and x_j·(x_i·B_s) have the same coordinates.
 fn commute_at(cells: &[u16], i: usize, j: usize, s: usize, d: usize, p: u16) -> bool
-    requires { ⌜ (length (now cells) ≡ most-cells) × (i < most-variables) × (j < most-variables) × (s < d) × (d ≤ most-standard) × (0 < p) × (p ≤ largest-modulus) × AllBelow p (tablesOf (now cells)) ⌝ }
+    requires { ⌜
+        (length (now cells) ≡ most-cells) × (i < most-variables) × (j < most-variables) × (s < d) × (d ≤ most-standard) × (0 < p) × (p ≤ largest-modulus)
+        × AllBelow p (tablesOf (now cells))
+        ⌝ }
     ensures { λ r. ⌜ ((h : 1 < p) → (r ≡ true) ↔ CommuteAt p h (tablesOf (now (cells .entry))) d i j s) ⌝ }
 {
     let a = apply(cells, i, row_of(cells, j, s), d, p);

@@ -19,7 +19,7 @@ ghost use Rattle.reduction.specs.Sound.{SoundLine, Sound};
 ghost use Rattle.multiplication.specs.Rows.{«most-cells», Below, tablesOf, AllBelow, cellOf};
 ghost use Rattle.multiplication.specs.Keys.{KeysOf};
 ghost use Rattle.multiplication.specs.Rules.{LeadKeys, LineOf, Unlisted, Through, ProductRow, MadeRow};
-ghost use Rattle.multiplication.specs.Cursors.{cursor, Listing, nextProduct, Best};
+ghost use Rattle.multiplication.specs.Cursors.{cursor, Listing, nextProduct, Nexts, FirstProducts, Best};
 ghost use Rattle.multiplication.specs.Listed.{listed, listedAt, Distinct, ListsIrreducibles, Subtracted, TailRow, Passes};
 use crate::coordinates::Coordinates;
 use crate::coordinates::MAX_CELLS;
@@ -97,14 +97,6 @@ fn line_of(keys: &[u64], leads: Leads, m: Monomial, n: usize) -> LinePlace
     }
 }
 
-// The line with the leading monomial x_i·B_s.
-fn line_for(keys: &[u64], leads: Leads, l: Irreducibles, i: usize, s: usize, n: usize) -> LinePlace
-    requires { ⌜ Listing n l × (leads .count ≤ most-lines) × LeadKeys n leads (now keys) × (i < n) × (s < l .count) ⌝ }
-    ensures { λ r. ⌜ LineOf n leads (product n (x n i) (listedAt n l s)) r ⌝ }
-{
-    line_of(keys, leads, times_variable(listed_at(l, s), i, n), n)
-}
-
 // Whether x_j divides m and x_i·m / x_j is not in the list.
 fn passes(keys: &[u64], l: Irreducibles, m: Monomial, i: usize, j: usize, n: usize) -> bool
     requires { ⌜ KeysOf n (listed n l) (l .count) (now keys) × (n ≤ most-variables) × (i < n) × (j < n) × ((k : ℕ) → k < n → exponent n (row n m) k < most-entry) ⌝ }
@@ -158,12 +150,13 @@ fn product_row(
     apply(cells, j, row_of(cells, i, at), l.count, p)
 }
 
-// The row of x_i·B_s: minus the tail of the line g if that leads with it, a unit row if it is listed, and otherwise a product.
+// The row of m = x_i·B_s: minus the tail of the line g if that leads with it, a unit row if it is listed, and otherwise a product.
 fn row_for(
     cells: &[u16],
     keys: &[u64],
     leads: bool,
     g: Generator,
+    m: Monomial,
     l: Irreducibles,
     i: usize,
     s: usize,
@@ -171,7 +164,8 @@ fn row_for(
     p: u16,
 ) -> Coordinates
     requires { ⌜
-        (length (now cells) ≡ most-cells) × AllBelow p (tablesOf (now cells)) × KeysOf n (listed n l) (l .count) (now keys) × Listing n l × Distinct n l × (1 < p) × (p ≤ largest-modulus) × (i < n) × (s < l .count)
+        (length (now cells) ≡ most-cells) × AllBelow p (tablesOf (now cells)) × KeysOf n (listed n l) (l .count) (now keys) × Listing n l × Distinct n l × (1 < p) × (p ≤ largest-modulus)
+        × (i < n) × (s < l .count) × (row n m ≡ product n (x n i) (listedAt n l s))
         × (leads ≡ true → SoundLine p n g) × (leads ≡ false → Unlisted n l i s → Through n l i s)
         ⌝ }
     ensures { λ r. ⌜ MadeRow p n leads g l (tablesOf (now (cells .entry))) i s r ⌝ }
@@ -179,7 +173,7 @@ fn row_for(
     if leads {
         return tail_row(keys, g, l, n, p);
     }
-    let k = place_in(keys, l, times_variable(listed_at(l, s), i, n), n);
+    let k = place_in(keys, l, m, n);
     if k < l.count {
         return Coordinates::unit(k);
     }
@@ -191,19 +185,52 @@ pub struct Cursors {
     pub at: [usize; MAX_VARIABLES],
 }
 
+// For each variable x_i its next product, that with its first row that is not filled.
+pub struct Products {
+    pub m: [Monomial; MAX_VARIABLES],
+}
+
+// x_i·B_s, or 1 where the list has no B_s.
+fn product_at(l: Irreducibles, i: usize, s: usize, n: usize) -> Monomial
+    requires { ⌜ Listing n l × (i < n) ⌝ }
+    ensures { λ r. ⌜ (s < l .count → row n r ≡ product n (x n i) (listedAt n l s)) ⌝ }
+{
+    if s < l.count {
+        times_variable(listed_at(l, s), i, n)
+    } else {
+        Monomial::one()
+    }
+}
+
+// The products x_i·B_0.
+fn first_products(l: Irreducibles, n: usize) -> Products
+    requires { ⌜ Listing n l ⌝ }
+    ensures { λ r. ⌜ FirstProducts n l r ⌝ }
+{
+    let mut r = Products {
+        m: [Monomial::one(); MAX_VARIABLES],
+    };
+    let mut i: usize = 0;
+    while i < n {
+        r.m[i] = product_at(l, i, 0, n);
+        i += 1;
+    }
+    r
+}
+
 // Whether the next product of x_i is smaller than that of x_j.
-fn comes_first(l: Irreducibles, c: Cursors, i: usize, j: usize, n: usize) -> bool
-    requires { ⌜ Listing n l × (i < n) × (j < n) × (cursor c i < l .count) × (cursor c j < l .count) ⌝ }
+fn comes_first(next: Products, l: Irreducibles, c: Cursors, i: usize, j: usize, n: usize) -> bool
+    requires { ⌜ (n ≤ most-variables) × Nexts n l c next × (i < n) × (j < n) × (cursor c i < l .count) × (cursor c j < l .count) ⌝ }
     ensures { λ r. ⌜ (r ≡ true) ↔ Grevlex n (nextProduct n l c i) (nextProduct n l c j) ⌝ }
 {
-    let a = times_variable(listed_at(l, c.at[i]), i, n);
-    let b = times_variable(listed_at(l, c.at[j]), j, n);
+    let a = next.m[i];
+    let b = next.m[j];
     smaller(a, b, n)
 }
 
 // Of the best among the variables before x_j, or none, and x_j, the one with the smaller next product.
-fn better(l: Irreducibles, c: Cursors, best: usize, j: usize, n: usize) -> usize
-    requires { ⌜ Listing n l × (j < n) × Best n l c best j ⌝ }
+fn better(next: Products, l: Irreducibles, c: Cursors, best: usize, j: usize, n: usize) -> usize
+    requires { ⌜ (n ≤ most-variables) × Nexts n l c next × (j < n) × Best n l c best j ⌝ }
     ensures { λ r. ⌜ Best n l c r (j + 1) ⌝ }
 {
     if l.count <= c.at[j] {
@@ -212,7 +239,7 @@ fn better(l: Irreducibles, c: Cursors, best: usize, j: usize, n: usize) -> usize
     if n <= best {
         return j;
     }
-    if comes_first(l, c, j, best, n) {
+    if comes_first(next, l, c, j, best, n) {
         j
     } else {
         best
@@ -220,14 +247,14 @@ fn better(l: Irreducibles, c: Cursors, best: usize, j: usize, n: usize) -> usize
 }
 
 // The variable with the smallest next product, or n where all rows are filled.
-fn smallest(l: Irreducibles, c: Cursors, n: usize) -> usize
-    requires { ⌜ Listing n l ⌝ }
+fn smallest(next: Products, l: Irreducibles, c: Cursors, n: usize) -> usize
+    requires { ⌜ (n ≤ most-variables) × Nexts n l c next ⌝ }
     ensures { λ r. ⌜ Best n l c r n ⌝ }
 {
     let mut best = n;
     let mut j: usize = 0;
     while j < n {
-        best = better(l, c, best, j, n);
+        best = better(next, l, c, best, j, n);
         j += 1;
     }
     best
@@ -247,16 +274,19 @@ pub fn fill(b: Basis, l: Irreducibles) -> Tables
     let leads = Leads::of(b);
     let mut lead_keys: [u64; MAX_LINES] = [0; MAX_LINES];
     put_lead_keys(&mut lead_keys, leads, b.n);
-    let mut i = smallest(l, c, b.n);
+    let mut next = first_products(l, b.n);
+    let mut i = smallest(next, l, c, b.n);
     while i < b.n {
         let s = c.at[i];
-        let found = line_for(&lead_keys, leads, l, i, s, b.n);
+        let m = next.m[i];
+        let found = line_of(&lead_keys, leads, m, b.n);
         let k = found.at;
         let g = b.generators[k];
-        let row = row_for(&cells, &keys, found.found, g, l, i, s, b.n, b.p);
+        let row = row_for(&cells, &keys, found.found, g, m, l, i, s, b.n, b.p);
         put_row(&mut cells, i, s, row);
         c.at[i] = s + 1;
-        i = smallest(l, c, b.n);
+        next.m[i] = product_at(l, i, s + 1, b.n);
+        i = smallest(next, l, c, b.n);
     }
     Tables { cells }
 }

@@ -15,7 +15,6 @@ use crate::keys::key;
 use crate::keys::key_place;
 use monomial::Exponent;
 use monomial::Monomial;
-use monomial::order::Comparison;
 use reduction::irreducible::Irreducibles;
 
 // Whether the monomials are equal.
@@ -26,16 +25,14 @@ pub fn equal(a: Monomial, b: Monomial, n: usize) -> bool
     key(a, n) == key(b, n)
 }
 
-// Whether a is smaller than b in grevlex.
+// Whether a is smaller than b in grevlex: by the degrees, and at equal degrees by the keys, in which the last variable counts most.
 pub fn smaller(a: Monomial, b: Monomial, n: usize) -> bool
     requires { ⌜ n ≤ most-variables ⌝ }
     ensures { λ r. ⌜ (r ≡ true) ↔ Grevlex n (row n a) (row n b) ⌝ }
 {
-    let order = a.compare_grevlex(b, n);
-    match order {
-        Comparison::Less => true,
-        _ => false,
-    }
+    let x = a.degree(n);
+    let y = b.degree(n);
+    if x == y { key(b, n) < key(a, n) } else { x < y }
 }
 
 // Variable i.

@@ -1,6 +1,6 @@
 -- `add_multiple` meets its contract. The loop's invariant: the first k sums are those of the result, the others those of the argument.
-use Prim.Native.Nat.{_+_, _*_, _-_, _<_, _≤_}
-use mathlib.Core.Path.{_≡_, sym, _∙_, ap}
+use Prim.Native.Nat.{_+_, _*_, _-_, _≤_}
+use mathlib.Core.Path.{_≡_, sym, ap}
 use lib.ListN.{getD}
 use Rattle.tabtext.specs.Sizes.{most-standard}
 use Rattle.multiplication.proofs.NaturalSums.{plus-zero-times}
@@ -69,8 +69,10 @@ loop-less c = search needs
 loop-again : tie.Need-loop-again Inv-loop μ-loop
 loop-again c =
     let s = c .before .before .before in
-    let l = s .loop in
-    (omega arith, stored-more _ _ _ _ (l .k) _ (l .inv .1) (omega (arith, s .before .before .pre .0)) (ap (_+ (s .before .before .args .c * getD (s .before .before .args .cells .now) (s .before .before .args .at + l .k) 0)) (l .inv .1 .kept (l .k) (omega arith))))
+    let k = s .loop .k in
+    let a = s .before .before .args in
+    let more = ap (_+ (a .c * getD (a .cells .now) (a .at + k) 0)) (s .loop .inv .1 .kept k (omega arith)) in
+    (omega arith, stored-more _ _ _ _ k _ (s .loop .inv .1) (omega (arith, s .before .before .pre .0)) more)
 
 same-length : tie.Need-same-length Inv-loop μ-loop
 same-length c = c .before .loop .inv .1 .size

@@ -14,7 +14,8 @@ key-requires c κs = search needs
 key-place-requires : tie.Need-key-place-requires
 key-place-requires c κs = search needs
 
-place : (c : tie.After-key-place) → let a = c .before .before .before .args in Place (a .n) (rowsOf (a .n) (a .leads .count) (a .leads .monomials)) (a .leads .count) (row (a .n) (a .m)) (c .key-place .result)
+place : (c : tie.After-key-place) → let a = c .before .before .before .args in let n = a .n in let l = a .leads in
+    Place n (rowsOf n (l .count) (l .monomials)) (l .count) (row n (a .m)) (c .key-place .result)
 place c = let (n, _, keys) = c .before .before .before .pre in key-place _ n keys (c .before .key .ensures) (c .key-place .ensures)
 
 returns : tie.Need-returns

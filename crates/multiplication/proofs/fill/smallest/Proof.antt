@@ -8,16 +8,16 @@ use Rattle.multiplication.proofs.fill.smallest.Statement.{statement}
 use Rattle.multiplication.proofs.fill.smallest.Tie as tie
 
 abbrev Inv-loop : tie.InvT-loop
-Inv-loop l c n best₀ j₀ best j = (j ≤ n) × Best n l c best j
+Inv-loop next l c n best₀ j₀ best j = (j ≤ n) × Best n l c best j
 
 abbrev μ-loop : tie.MeasureT-loop
-μ-loop l c n best₀ j₀ best j = n - j
+μ-loop next l c n best₀ j₀ best j = n - j
 
 loop-holds : tie.Need-loop-holds Inv-loop μ-loop
 loop-holds c = (omega arith, least-start)
 
 better-requires : tie.Need-better-requires Inv-loop μ-loop
-better-requires c κs = (c .before .before .pre, c .loop-test .taken, c .before .loop .inv .1)
+better-requires c κs = (c .before .before .pre .0, c .before .before .pre .1, c .loop-test .taken, c .before .loop .inv .1)
 
 add-j : tie.Need-add-j Inv-loop μ-loop
 add-j c = omega arith

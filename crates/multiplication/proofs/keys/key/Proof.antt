@@ -1,5 +1,4 @@
 -- `key` meets its contract.
-use mathlib.Core.Path.{_≡_}
 use Rattle.multiplication.proofs.KeyPlaces.{short-four}
 use native.Mathlib.Omega.{arith}
 use borrow.Author.Needs.{needs}

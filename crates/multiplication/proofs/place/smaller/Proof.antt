@@ -1,23 +1,31 @@
 -- `smaller` meets its contract.
-use mathlib.Core.Path.{refl, sym, _∙_}
-use mathlib.Core.Bool.{false≢true}
-use mathlib.Core.Logic.{⊎-elim}
-use native.Mathlib.Omega.{arith}
+use Rattle.multiplication.proofs.KeyOrder.{by-keys, by-degrees}
 use borrow.Author.Needs.{needs}
 use Rattle.multiplication.proofs.place.smaller.Statement.{statement}
 use Rattle.multiplication.proofs.place.smaller.Tie as tie
 
-compare-grevlex-requires : tie.Need-compare-grevlex-requires
-compare-grevlex-requires c κs = search needs
+degree-requires : tie.Need-degree-requires
+degree-requires c κs = search needs
 
-enum-told : tie.Need-enum-told
-enum-told c = c .match .keys1
+degree-requires-2 : tie.Need-degree-requires-2
+degree-requires-2 c κs = search needs
+
+key-requires : tie.Need-key-requires
+key-requires c κs = search needs
+
+key-requires-2 : tie.Need-key-requires-2
+key-requires-2 c κs = search needs
 
 returns : tie.Need-returns
-returns c = (λ _. sym (c .before .before .compare-grevlex .ensures) ∙ c .enum-told .given .1, λ _. refl)
+returns c =
+    let d = c .before .before in
+    let e = d .before .before in
+    by-keys _ (e .before .pre) _ _ (e .degree .ensures) (d .before .degree2 .ensures) (d .if1 .taken) (c .key2 .ensures) (c .before .key .ensures)
 
 returns-2 : tie.Need-returns-2
-returns-2 c = (λ e. absurd (false≢true e), λ q. absurd (⊎-elim (λ e. omega arith) (λ e. omega arith) (rw (c .before .compare-grevlex .ensures ∙ q) at (c .match .keys2))))
+returns-2 c = let e = c .before .before in by-degrees _ (e .before .pre) _ _ (e .degree .ensures) (c .before .degree2 .ensures) (c .if1 .left)
 
 pub smaller-spec : {M : Type 1} → statement M
-smaller-spec = tie.close (tie.spec compare-grevlex-requires enum-told returns returns-2)
+smaller-spec =
+    tie.close
+    (tie.spec degree-requires degree-requires-2 key-requires key-requires-2 returns returns-2)
