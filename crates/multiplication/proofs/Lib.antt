@@ -7,6 +7,7 @@
 --   CommutingRows  rows that commute, by their coefficients
 --   RowFilling     the rows of the products x_i·B_s, filled in rising order
 --   EqualMonomials monomials of the code that are equal as rows
+--   KeyDigits      numbers and their digits
 --   KeyPlaces      keys of monomials, and their places
 --   KeyOrder       degrees and keys decide grevlex
 --   Sought         the loop of `place_of`
@@ -34,6 +35,7 @@ pub mod RowSums
 pub mod CommutingRows
 pub mod RowFilling
 pub mod EqualMonomials
+pub mod KeyDigits
 pub mod KeyPlaces
 pub mod KeyOrder
 pub mod Sought

@@ -1,21 +1,40 @@
--- Keys of monomials: the exponents as one number, 16 bits each.
+-- Keys of monomials: the exponents as the digits of one number, that of the last variable counting most.
+--   base                     one more than the largest exponent of the code
+--   weight c                 what digit c counts
+--   digits f c               the number with the digits f 0, .., f (c - 1)
 --   keyOf n m                the key of m
---   Short n m                the exponents of m fit 16 bits
+--   Short n m                the exponents of m are digits
 --   KeysOf n B count keys    the first keys are those of the monomials B
 --   FirstKey keys count w r  r is the first place of w among the first keys, or `count` where it is none of them
-use Prim.Native.Nat.{ℕ, _+_, _*_, _^_, _≤_, _<_}
+use Prim.Native.Nat.{ℕ, zero, suc, _+_, _*_, _≤_, _<_}
 use mathlib.Core.Path.{_≡_}
 use mathlib.Core.List.{List}
 use lib.ListN.{length, getD}
+use Rattle.monomial.specs.Sizes.{most-entry}
 use Rattle.monomial.specs.Rows.{Row, one, exponent}
+
+-- One more than the largest exponent of the code.
+abbrev pub base : ℕ
+base = suc most-entry
+
+-- What digit c counts: base to the power c.
+unfoldable pub weight : ℕ → ℕ
+weight zero = 1
+weight (suc c) = base * weight c
+
+-- The number with the digits f 0, .., f (c - 1).
+unfoldable pub digits : (ℕ → ℕ) → ℕ → ℕ
+unfolding weight
+digits f zero = 0
+digits f (suc c) = digits f c + weight c * f c
 
 -- The key of m.
 abbrev pub keyOf : (n : ℕ) → Row n → ℕ
-keyOf n m = exponent n m 0 + 65536 * (exponent n m 1 + 65536 * (exponent n m 2 + 65536 * exponent n m 3))
+keyOf n m = digits (exponent n m) n
 
--- The exponents of m fit 16 bits.
+-- The exponents of m are digits.
 pub record Short (n : ℕ) (m : Row n) : Type 0 where
-  pub short : (i : ℕ) → exponent n m i < 2 ^ 16
+  pub short : (i : ℕ) → i < n → exponent n m i < base
 
 -- The first keys are those of the monomials B.
 pub record KeysOf (n : ℕ) (B : List (Row n)) (count : ℕ) (keys : List ℕ) : Type 0 where

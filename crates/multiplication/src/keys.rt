@@ -1,9 +1,8 @@
 // Keys: the exponents of a monomial as one number, so that a place is found by a comparison of numbers.
 ghost use mathlib.Core.Path.{_≡_};
-ghost use Prim.Native.Nat.{_^_, _<_, _≤_};
+ghost use Prim.Native.Nat.{_≤_};
 ghost use lib.ListN.{length};
 ghost use Rattle.monomial.specs.Sizes.{«most-variables»};
-ghost use Rattle.monomial.specs.Rows.{exponent};
 ghost use Rattle.monomial.specs.Represented.{row};
 ghost use Rattle.tabtext.specs.Sizes.{«most-standard», «most-lines»};
 ghost use Rattle.reduction.specs.Leads.{rowsOf};
@@ -12,29 +11,24 @@ use monomial::Monomial;
 use reduction::irreducible::Irreducibles;
 use reduction::leads::Leads;
 
-// The exponent of variable i, and 0 past the first n variables.
-fn exponent_within(m: Monomial, i: usize, n: usize) -> u64
-    requires { ⌜ i < most-variables ⌝ }
-    ensures { λ r. ⌜ (r ≡ exponent n (row n m) i) × (r < 2 ^ 16) ⌝ }
-{
-    if i < n {
-        let e = m.e[i];
-        e.0 as u64
-    } else {
-        0
-    }
-}
+// One more than the largest exponent of the code.
+const BASE: u64 = 256;
 
-// The first n exponents, 16 bits each.
+// The first n exponents as digits.
 pub fn key(m: Monomial, n: usize) -> u64
     requires { ⌜ n ≤ most-variables ⌝ }
     ensures { λ r. ⌜ (r ≡ keyOf n (row n m)) × Short n (row n m) ⌝ }
 {
-    let a = exponent_within(m, 0, n);
-    let b = exponent_within(m, 1, n);
-    let c = exponent_within(m, 2, n);
-    let d = exponent_within(m, 3, n);
-    a + 65536 * (b + 65536 * (c + 65536 * d))
+    let mut k: u64 = 0;
+    let mut weight: u64 = 1;
+    let mut i: usize = 0;
+    while i < n {
+        let e = m.e[i];
+        k += weight * (e.0 as u64);
+        weight *= BASE;
+        i += 1;
+    }
+    k
 }
 
 // The keys of the monomials of a list.

@@ -16,7 +16,7 @@ key-place-requires c κs = search needs
 
 place : (c : tie.After-key-place) → let a = c .before .before .before .args in let n = a .n in let l = a .leads in
     Place n (rowsOf n (l .count) (l .monomials)) (l .count) (row n (a .m)) (c .key-place .result)
-place c = let (n, _, keys) = c .before .before .before .pre in key-place _ n keys (c .before .key .ensures) (c .key-place .ensures)
+place c = let (_, _, keys) = c .before .before .before .pre in key-place _ keys (c .before .key .ensures) (c .key-place .ensures)
 
 returns : tie.Need-returns
 returns c = let d = c .before .before in lead-found _ _ (place d) (d .before .before .before .pre .1) (c .if1 .taken)

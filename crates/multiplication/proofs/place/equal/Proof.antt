@@ -11,7 +11,7 @@ key-requires-2 : tie.Need-key-requires-2
 key-requires-2 c κs = search needs
 
 returns : tie.Need-returns
-returns c = key-same _ (c .before .before .pre) (c .before .key .ensures) (c .key2 .ensures)
+returns c = key-same _ (c .before .key .ensures) (c .key2 .ensures)
 
 pub equal-spec : {M : Type 1} → statement M
 equal-spec = tie.close (tie.spec key-requires key-requires-2 returns)

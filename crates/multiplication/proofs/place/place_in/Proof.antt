@@ -11,7 +11,7 @@ key-place-requires : tie.Need-key-place-requires
 key-place-requires c κs = search needs
 
 returns : tie.Need-returns
-returns c = let s = c .before .before .before in key-place _ (s .pre .0) (s .pre .1) (c .before .key .ensures) (c .key-place .ensures)
+returns c = let s = c .before .before .before in key-place _ (s .pre .1) (c .before .key .ensures) (c .key-place .ensures)
 
 pub place-in-spec : {M : Type 1} → statement M
 place-in-spec = tie.close (tie.spec key-requires key-place-requires returns)

@@ -20,10 +20,10 @@ returns : tie.Need-returns
 returns c =
     let d = c .before .before in
     let e = d .before .before in
-    by-keys _ (e .before .pre) _ _ (e .degree .ensures) (d .before .degree2 .ensures) (d .if1 .taken) (c .key2 .ensures) (c .before .key .ensures)
+    by-keys _ _ _ (e .degree .ensures) (d .before .degree2 .ensures) (d .if1 .taken) (c .key2 .ensures) (c .before .key .ensures)
 
 returns-2 : tie.Need-returns-2
-returns-2 c = let e = c .before .before in by-degrees _ (e .before .pre) _ _ (e .degree .ensures) (c .before .degree2 .ensures) (c .if1 .left)
+returns-2 c = let e = c .before .before in by-degrees _ _ _ (e .degree .ensures) (c .before .degree2 .ensures) (c .if1 .left)
 
 pub smaller-spec : {M : Type 1} → statement M
 smaller-spec =
