@@ -10,8 +10,8 @@
 --   lines-clear                no monomial of a line is divisible by another line's leading monomial
 --   not-large                  `list_irreducibles` listed all
 --   pairs-low                  so the least common multiples of leading monomials are low
---   whole-failing              15: rows that do not commute, and the answer of `first_failing`
---   whole-passes               rows that commute: the basis passes
+--   whole-failing              15: the answer no of `accept`, and that of `first_failing`
+--   whole-passes               the answer yes: the basis passes
 use mathlib.Core.Path.{_≡_, refl, sym, _∙_, ap, subst}
 use mathlib.Core.Bool.{Bool, true, false, false≢true}
 use mathlib.Core.List.{List, [], _∷_, List·Memᴰ·head, List·Memᴰ·tail, List·Memᴰ·not-nil, List·Memᴰ·cases-cons}
@@ -142,18 +142,18 @@ module _ (b : Basis) where
     lines h = sound-lines b sound filled h
 
     module _ (a : Accepted) (acceptance : Acceptance b l a) where
-      -- 15 speaks of no line exactly if the rows commute.
-      commuting : (h : 1 < b .p) → ((k : ℕ) → ¬ Failing (modulo (b .p) h) (rows (b .n)) (linesOf b h) (Grevlex (b .n)) k) ↔ (a .groebner ≡ true)
-      commuting h = Iff·trans (failing-buchberger (ground (b .p) (prime h) (b .n)) (grevlex-order (b .n)) (linesOf b h) (λ g q. lines h .falling g q .0)) (Iff·symm (acceptance .buchberger h))
+      -- 15 speaks of no line exactly if the answer of `accept` is yes.
+      accepted : (h : 1 < b .p) → ((k : ℕ) → ¬ Failing (modulo (b .p) h) (rows (b .n)) (linesOf b h) (Grevlex (b .n)) k) ↔ (a .groebner ≡ true)
+      accepted h = Iff·trans (failing-buchberger (ground (b .p) (prime h) (b .n)) (grevlex-order (b .n)) (linesOf b h) (λ g q. lines h .falling g q .0)) (Iff·symm (acceptance .buchberger h))
 
       pub whole-failing : (k : ℕ) → ((h : 1 < b .p) → Smallest (Failing (modulo (b .p) h) (rows (b .n)) (linesOf b h) (Grevlex (b .n))) k) → a .groebner ≡ false → Outcome b (Refused NotGroebner k)
       whole-failing k first e h = inr (pass h .0, inr (λ z. z (pass h .1), inr (not-large h, smallest-refuses 15 Passes (first h) some)))
         where
           some : ¬ (k ≡ 0)
-          some z = false≢true (sym e ∙ commuting h .0 (smallest-passes (subst (Smallest _) z (first h)) (λ f. f .later)))
+          some z = false≢true (sym e ∙ accepted h .0 (smallest-passes (subst (Smallest _) z (first h)) (λ f. f .later)))
 
       passing : a .groebner ≡ true → (h : 1 < b .p) → Passing (b .p) (prime h) (b .n) (linesOf b h)
-      passing e h = record { undivided = pass h .0; dimension = λ z. z (pass h .1); unfailing = commuting h .1 e }
+      passing e h = record { undivided = pass h .0; dimension = λ z. z (pass h .1); unfailing = accepted h .1 e }
 
       pub whole-passes : a .groebner ≡ true → WholeSays b Passed l (a .tables)
       whole-passes e = (

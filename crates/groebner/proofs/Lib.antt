@@ -1,9 +1,9 @@
 -- The theorems of the crate `groebner`. T1 to T13 are those that docs/MATHEMATICS.md tells.
 --   Base: Modules, Linear, Terms, Ground, Lists, Members, LinearMaps
 --   Remainders: NormalForms, Division (T1, T2)
---   Ideals and Groebner bases: Ideals, GroebnerBases (T2, T4), SPairs, Buchberger (T3), Congruence (T4), Leads, LeadingTerms, Clear, Uniqueness (T8)
+--   Ideals and Groebner bases: Ideals, GroebnerBases (T2, T4), SPairs, Buchberger (T3), CoprimeLeads, Congruence (T4), Leads, LeadingTerms, Clear, Uniqueness (T8)
 --   Two orders: Spans, Images, OtherLines, ChangeOfOrder (T6, T7), Equivalence (T9)
---   Zero dimension (T5): Powers, Decisions, ZeroDimension
+--   Zero dimension (T5): Powers, Decisions, ZeroDimension, PowerLeads
 --   Multiplication rows (T13): Variables, DotProducts, Places, ClearLines, NormalCoefficients, Commute, MultiplicationRows
 --   Elimination: Elimination, Echelon (T12), RowElimination, CoefficientRows, CoefficientElimination, Coordinates, ImageCoordinates
 --   The enumeration (T11): Exponents, RisingLists, Counting, Successors, Next, ReducibleTest, Seen, Enumeration, EnumerationResult, EnumerationEnd,
@@ -23,6 +23,7 @@ pub mod Ideals
 pub mod GroebnerBases
 pub mod SPairs
 pub mod Buchberger
+pub mod CoprimeLeads
 pub mod Congruence
 pub mod Leads
 pub mod LeadingTerms
@@ -36,6 +37,7 @@ pub mod Equivalence
 pub mod Powers
 pub mod Decisions
 pub mod ZeroDimension
+pub mod PowerLeads
 pub mod Variables
 pub mod DotProducts
 pub mod Places

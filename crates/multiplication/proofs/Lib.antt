@@ -26,7 +26,7 @@
 --   Merging        the merge of the next products
 --   AllRows        the loop of `fill`
 --   TailRows       the loop of `tail_row`
---   GroebnerTest   rows that commute are those of a Groebner basis
+--   GroebnerTest   rows that commute, or as many lines as variables, are those of a Groebner basis
 pub mod Testing
 pub mod Storing
 pub mod UnitRows

@@ -51,7 +51,7 @@ accept-requires : tie.Need-accept-requires
 accept-requires c κs =
     let s = c .before .before .before in
     let (sound, leads, pass) = s .pre in
-    (sound, irreducible c, sound-lines _ sound (filled s), lines-clear _ pass)
+    (sound, irreducible c, sound-lines _ sound (filled s), lines-clear _ pass, λ h. pass h .1)
 
 failing-line-requires : tie.Need-failing-line-requires
 failing-line-requires c κs =
