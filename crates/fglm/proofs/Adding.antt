@@ -1,4 +1,4 @@
--- What `add` makes of what is left of a vector.
+-- What the steps of the elimination make of what is left of a vector, together: the answer of row elimination.
 --   answer-left       the answer of row elimination, by the first place of what is left
 --   adds-dependent    if nothing is left, the opposite of the combination is the answer
 --   room-left         if something is left, there is a row for it
@@ -15,7 +15,6 @@ use lib.ListN.{length, getD, set, take}
 use lib.Seq.{getD-set-same, getD-set-other, take-suc-set}
 use Rattle.residue.specs.Prime.{Prime}
 use Rattle.residue.specs.Field.{ZMod, modulo}
-use Rattle.residue.specs.Modular.{negation}
 use Rattle.residue.specs.Reciprocals.{entry}
 use Rattle.residue.specs.declared.reciprocals.Reciprocals.{Reciprocals}
 use Rattle.residue.proofs.ResidueField.{residue-field}
@@ -23,10 +22,10 @@ use Rattle.tabtext.specs.Sizes.{most-standard}
 use Rattle.groebner.proofs.CoefficientRows.{multiply}
 use Rattle.reduction.specs.Generators.{residue}
 use Rattle.multiplication.specs.declared.coordinates.Coordinates.{Coordinates}
-use Rattle.fglm.specs.Vectors.{vector, Represents, multiplied, FirstPlace}
+use Rattle.fglm.specs.Vectors.{vector, FirstPlace}
 use Rattle.fglm.specs.RowState.{remainder, reducedRow, noRow, rowAt, state, SoundRow, Sound}
-use Rattle.fglm.specs.Elimination.{inverse, nothing, answer, Room, Adds}
-use Rattle.fglm.specs.Steps.{Scaled, ClearedRow, ClearedRows, Inserted}
+use Rattle.fglm.specs.Elimination.{inverse, nothing, LeftOf, answer, Room, Adds}
+use Rattle.fglm.specs.Steps.{Dependence, Scaled, ClearedRow, ClearedRows, Inserted}
 use Rattle.fglm.specs.declared.elimination.Reduced.{Reduced}
 use Rattle.fglm.specs.declared.elimination.Remainder.{Remainder}
 use Rattle.fglm.specs.declared.elimination.Rows.{Rows}
@@ -35,7 +34,6 @@ use Rattle.fglm.specs.declared.vectors.Found.the-variants.{Pivot, Depend
 use Rattle.fglm.proofs.Residues.{residue-below, residue-one, residue-negation}
 use Rattle.fglm.proofs.VectorEntries.{vector-entry}
 use Rattle.fglm.proofs.FirstPlaces.{place, first-of-place}
-use Rattle.fglm.proofs.Reducing.{LeftOf}
 use Rattle.fglm.proofs.ListElimination.{less, scaled, cleared, inserted, chosen, eliminated-first}
 
 -- Two lists of rows that agree row by row.
@@ -58,13 +56,13 @@ module _ (t : Reciprocals) (s : Rows) (v : Coordinates) (x : Remainder) (left : 
       h : 1 < p
       h = prime .above-one
 
-  pub adds-dependent : (m : ℕ) (c : Coordinates) → FirstPlace (x .row) Dependent → m ≡ negation p 1 → Represents p c (multiplied p m (x .combination)) → Sound p s
+  pub adds-dependent : (c : Coordinates) → FirstPlace (x .row) Dependent → Dependence p x c → Sound p s
       → Adds t s v (record { rows = s; found = Dependent; combination = c })
-  adds-dependent m c f e r sound = record {
+  adds-dependent c f r sound = record {
     sound = sound;
     below = r .below;
     answered = λ prime. let h = prime .above-one in
-        ap inl (r .residues h ∙ ap (λ y. multiply (modulo p h) y (vector p h (x .combination))) (ap (residue p h) e ∙ residue-negation p h 1 h ∙ ap (modulo p h .neg) (residue-one p h)))
+        ap inl (r .residues h ∙ ap (λ y. multiply (modulo p h) y (vector p h (x .combination))) (residue-negation p h 1 h ∙ ap (modulo p h .neg) (residue-one p h)))
         ∙ sym (answer-left prime Dependent f);
     grown = refl;
   }
@@ -75,7 +73,7 @@ module _ (t : Reciprocals) (s : Rows) (v : Coordinates) (x : Remainder) (left : 
 
     module _ (q : Reduced) (made : Scaled t x k q) where
       pub row-scaled : SoundRow p q
-      row-scaled = record { place = subst (_< most-standard) (sym (made .pivot)) (first .0); row-below = made .row .below; combination-below = made .combination .below }
+      row-scaled = record { place = subst (_< most-standard) (sym (made .pivot)) (first .0); row-whole = made .row .whole; combination-whole = made .combination .whole; row-below = made .row .below; combination-below = made .combination .below }
 
       -- The row as a list of residues.
       scaled-is : (h : 1 < p) → reducedRow p h q ≡ scaled p h (inverse t h (getD (vector p h (x .row)) k (modulo p h .zero))) (remainder p h x) k
@@ -102,6 +100,8 @@ module _ (t : Reciprocals) (s : Rows) (v : Coordinates) (x : Remainder) (left : 
             other : (i : ℕ) → i < s .used → SoundRow p (rowAt grown-rows i)
             other i l = subst (SoundRow p) (sym (getD-set-other (s′ .rows) (s .used) i q noRow (omega arith))) (record {
               place = subst (_< most-standard) (sym (clears .rows i l .pivot)) (sound .rows i l .place);
+              row-whole = clears .rows i l .row .whole;
+              combination-whole = clears .rows i l .combination .whole;
               row-below = clears .rows i l .row .below;
               combination-below = clears .rows i l .combination .below;
             })

@@ -5,11 +5,10 @@
 --   enumerating-start, enumerating-stop
 --   standard-few    there is room for the standard monomials
 --   next-found, next-exponents, next-few, next-lines    what is known of the monomial to visit
---   visit-room      where it has a row, there is room for it
---   standard-room   where it had a row, there was room for it
+--   rows-room, standard-room   where it has a row, there is room for it
 --   after-standard, after-line   the two outcomes of a visit
 --   onward          the next monomial
-use mathlib.Core.Path.{_≡_, sym, _∙_, ap, ap₂, subst}
+use mathlib.Core.Path.{_≡_, refl, sym, _∙_, ap, ap₂, subst}
 use mathlib.Core.Bool.{Bool, true, false}
 use mathlib.Core.List.{List, [], _∷_, _++_}
 use mathlib.Core.Logic.{by-cases}
@@ -17,8 +16,8 @@ use Prim.Native.Nat.{ℕ, suc, _+_, _*_, _≤_, _<_}
 use native.Mathlib.Nat.{mul-le-mul-left}
 use native.Mathlib.Decide.{decLt}
 use native.Mathlib.Omega.{arith}
-use lib.ListN.{length, getD, take, set, length-set}
-use lib.Seq.{take-suc-set, getD-set-same, getD-set-other}
+use lib.ListN.{length, take, set, length-set}
+use lib.Seq.{take-suc-set}
 use Rattle.residue.specs.Prime.{Prime}
 use Rattle.residue.specs.Field.{ZMod}
 use Rattle.residue.specs.declared.reciprocals.Reciprocals.{Reciprocals}
@@ -47,25 +46,28 @@ use Rattle.multiplication.specs.Rows.{Below}
 use Rattle.multiplication.specs.Listed.{listed}
 use Rattle.multiplication.specs.declared.coordinates.Coordinates.{Coordinates}
 use Rattle.multiplication.specs.declared.coordinates.Tables.{Tables}
+use Rattle.fglm.specs.Vectors.{Whole, FirstPlace}
 use Rattle.fglm.specs.RowState.{Sound}
-use Rattle.fglm.specs.Elimination.{Room, Adds, Grown}
-use Rattle.fglm.specs.ImageRows.{imageAt, DivisorsFound, ImageRow}
+use Rattle.fglm.specs.Elimination.{LeftOf, Room, Adds}
+use Rattle.fglm.specs.Steps.{Dependence, Scaled, Inserted}
+use Rattle.fglm.specs.ImageRows.{most-images, imageAt, ImagePut, DivisorsFound, ImageRow}
 use Rattle.fglm.specs.WrittenLines.{WrittenLine}
 use Rattle.fglm.specs.Found.{linesOf, standardOf, PrintableLine}
 use Rattle.fglm.specs.Enumerable.{Enumerable, Convertible, Enumerated, Pushed}
-use Rattle.fglm.specs.declared.elimination.Added.{Added}
+use Rattle.fglm.specs.declared.elimination.Reduced.{Reduced}
+use Rattle.fglm.specs.declared.elimination.Remainder.{Remainder}
 use Rattle.fglm.specs.declared.elimination.Rows.{Rows}
-use Rattle.fglm.specs.declared.image.Images.{Images}
 use Rattle.fglm.specs.declared.vectors.Found.the-variants.{Pivot, Dependent}
-use Rattle.fglm.proofs.VectorEntries.{Whole}
+use Rattle.fglm.proofs.Adding.{room-left, adds-dependent, adds-inserted}
 use Rattle.fglm.proofs.Promise.{enough-room, sound-none}
 use Rattle.fglm.proofs.Visits.{Setting, L, Stage, Progressed, progressed-none, to-visit-found, to-visit-exponents, to-visit-few, to-visit-lines, visit-image, visit-line, visit-standard, visit-onward, visits-end}
 
 -- The parts of the state are within their arrays.
-pub record Kept (p n : ℕ) (rs : Rows) (images : Images) (standard : Irreducibles) (ls : Leads) (gs : List Generator) : Type 0 where
+pub record Kept (p n : ℕ) (rs : Rows) (images : List ℕ) (standard : Irreducibles) (ls : Leads) (gs : List Generator) : Type 0 where
   pub sound : Sound p rs
+  pub rows-size : length (rs .rows) ≡ most-standard
   pub used : rs .used ≡ standard .count
-  pub images-size : length (images .rows) ≡ most-standard
+  pub images-size : length images ≡ most-images
   pub images-below : (k : ℕ) → k < standard .count → Below p (imageAt images k)
   pub standard-size : length (standard .monomials) ≡ most-standard
   pub standard-held : Each (Held n) (take (standard .count) (standard .monomials))
@@ -87,7 +89,7 @@ module _ (t : Reciprocals) (n : ℕ) (s : List ℕ) (l : Irreducibles) (tables :
     𝓢₀ prime = setting prime (given .lines prime .0) (given .lines prime .1)
 
     -- The state stands for lines of the theory, and m is to be visited next; or none is.
-    pub record Enumerating (rs : Rows) (images : Images) (standard : Irreducibles) (ls : Leads) (gs : List Generator) (found : Bool) (m : Monomial) : Type 0 where
+    pub record Enumerating (rs : Rows) (images : List ℕ) (standard : Irreducibles) (ls : Leads) (gs : List Generator) (found : Bool) (m : Monomial) : Type 0 where
       pub kept : Kept (t .p) n rs images standard ls gs
       pub held : Held n m
       pub stage : (𝓢 : Setting t n s l tables)
@@ -95,19 +97,20 @@ module _ (t : Reciprocals) (n : ℕ) (s : List ℕ) (l : Irreducibles) (tables :
           × Stage 𝓢 H (listed n standard) found (row n m)
 
     -- m is visited.
-    pub record VisitedOnce (before : ℕ) (rs : Rows) (images : Images) (standard : Irreducibles) (ls : Leads) (gs : List Generator) (m : Monomial) : Type 0 where
+    pub record VisitedOnce (before : ℕ) (rs : Rows) (images : List ℕ) (standard : Irreducibles) (ls : Leads) (gs : List Generator) (m : Monomial) : Type 0 where
       pub kept : Kept (t .p) n rs images standard ls gs
       pub count : ls .count + standard .count ≡ suc before
       pub seen : (𝓢 : Setting t n s l tables)
           → (H : Lines) × Progressed 𝓢 rs images standard ls gs H
           × Seen n (sequences (residue-field (t .p) (𝓢 .prime) .ring)) (L 𝓢) (Lex n s) (UpTo (Lex n s) (row n m)) H (listed n standard)
 
-    pub enumerating-start : (rs : Rows) (images : Images) (standard : Irreducibles) (ls : Leads) (gs : List Generator) (m : Monomial) → rs .used ≡ 0 → standard .count ≡ 0 → ls .count ≡ 0
-        → length (images .rows) ≡ most-standard → length (standard .monomials) ≡ most-standard → length (ls .monomials) ≡ most-lines → length gs ≡ most-lines
+    pub enumerating-start : (rs : Rows) (images : List ℕ) (standard : Irreducibles) (ls : Leads) (gs : List Generator) (m : Monomial) → rs .used ≡ 0 → standard .count ≡ 0 → ls .count ≡ 0
+        → length (rs .rows) ≡ most-standard → length images ≡ most-images → length (standard .monomials) ≡ most-standard → length (ls .monomials) ≡ most-lines → length gs ≡ most-lines
         → m ≡ monomial most-variables (one most-variables) → Enumerating rs images standard ls gs true m
-    enumerating-start rs images standard ls gs m e f g i j k u q = record {
+    enumerating-start rs images standard ls gs m e f g r i j k u q = record {
       kept = record {
         sound = sound-none (t .p) rs e;
+        rows-size = r;
         used = e ∙ sym f;
         images-size = i;
         images-below = λ k u. absurd (omega arith);
@@ -123,7 +126,7 @@ module _ (t : Reciprocals) (n : ℕ) (s : List ℕ) (l : Irreducibles) (tables :
           ([], w .0, subst (Stage 𝓢 [] (listed n standard) true) (sym (held-row n (one n) (q ∙ one-held n (given .variables)))) (w .1));
     }
 
-    module _ {rs : Rows} {images : Images} {standard : Irreducibles} {ls : Leads} {gs : List Generator} {m : Monomial} where
+    module _ {rs : Rows} {images : List ℕ} {standard : Irreducibles} {ls : Leads} {gs : List Generator} {m : Monomial} where
       pub standard-few : {found : Bool} → Enumerating rs images standard ls gs found m → standard .count ≤ most-standard
       standard-few e = omega (arith, e .kept .used, e .kept .sound .size)
 
@@ -145,7 +148,7 @@ module _ (t : Reciprocals) (n : ℕ) (s : List ℕ) (l : Irreducibles) (tables :
             omega (arith, to-visit-lines (𝓢₀ (given .modulus .prime)) q v (given .some-variable) (standard-few e), given .variables)
 
         module _ {w : Coordinates} (whole : Whole w) (i : ImageRow (t .p) n m images standard tables l w) where
-          pub visit-room : Room t rs w
+          visit-room : Room t rs w
           unfolding 𝓢₀ setting
           visit-room = record {
             room = λ prime ss r. let 𝓢 = 𝓢₀ prime in let (H, q, v) = e .stage 𝓢 in
@@ -153,23 +156,25 @@ module _ (t : Reciprocals) (n : ℕ) (s : List ℕ) (l : Irreducibles) (tables :
                 (visit-image 𝓢 q whole i .1) ss r;
           }
 
-          module _ {a : Added} (adds : Adds t rs w a) where
-            module _ {k : ℕ} (pivot : a .found ≡ Pivot k) where
-              grown : Grown (Pivot k) rs a
-              grown = subst (λ f. Grown f rs a) pivot (adds .grown)
+          module _ {x : Remainder} (left : LeftOf (t .p) rs w x) where
+            module _ {k : ℕ} (first : FirstPlace (x .row) (Pivot k)) where
+              pub rows-room : rs .used < most-standard
+              rows-room = room-left t rs w x left k first (given .modulus .prime) visit-room
 
               pub standard-room : standard .count < most-standard
-              standard-room = omega (arith, grown .0, adds .sound .size, e .kept .used)
+              standard-room = omega (arith, rows-room, e .kept .used)
 
-              pub after-standard : {images′ : Images} {standard′ : Irreducibles} → images′ .rows ≡ set (images .rows) (standard .count) w → Pushed standard m standard′
-                  → VisitedOnce (ls .count + standard .count) (a .rows) images′ standard′ ls gs m
-              after-standard {images′} {standard′} stored more = record {
+              pub after-standard : {q : Reduced} → Scaled t x k q → {rs′ : Rows} → Inserted (t .p) q rs rs′
+                  → {images′ : List ℕ} {standard′ : Irreducibles} → ImagePut images (standard .count) w images′ → Pushed standard m standard′
+                  → VisitedOnce (ls .count + standard .count) rs′ images′ standard′ ls gs m
+              after-standard {q} made {rs′} inserted {images′} {standard′} stored more = record {
                 kept = record {
                   sound = adds .sound;
-                  used = omega (arith, grown .0, more .count, e .kept .used);
-                  images-size = ap length stored ∙ length-set (images .rows) (standard .count) w ∙ e .kept .images-size;
+                  rows-size = ap (λ r. length (r .rows)) (inserted .is) ∙ length-set (inserted .others .rows) (rs .used) q ∙ inserted .cleared .size ∙ e .kept .rows-size;
+                  used = omega (arith, adds .grown .0, more .count, e .kept .used);
+                  images-size = stored .size ∙ e .kept .images-size;
                   images-below = λ j u. by-cases (decLt j (standard .count)) (λ v. subst (Below (t .p)) (sym (before j v)) (e .kept .images-below j v))
-                      (λ v. let q : j ≡ standard .count = omega (arith, more .count) in subst (Below (t .p)) (sym (ap (imageAt images′) q ∙ own)) (i .below));
+                      (λ v. let f : j ≡ standard .count = omega (arith, more .count) in subst (Below (t .p)) (sym (ap (imageAt images′) f ∙ stored .own)) (i .below));
                   standard-size = ap length (more .monomials) ∙ length-set (standard .monomials) (standard .count) m ∙ e .kept .standard-size;
                   standard-held = subst (Each (Held n)) (sym taken) (each-append (Held n) (take (standard .count) (standard .monomials)) (e .kept .standard-held) (e .held));
                   leads-size = e .kept .leads-size;
@@ -178,17 +183,17 @@ module _ (t : Reciprocals) (n : ℕ) (s : List ℕ) (l : Irreducibles) (tables :
                   printable = e .kept .printable;
                 };
                 count = omega (arith, more .count);
-                seen = λ 𝓢. let (H, q, v) = e .stage 𝓢 in
-                    let (normal, image) = visit-image 𝓢 q whole i in
-                    let r = visit-standard 𝓢 q m v w image a adds k pivot standard′ listed-more (more .count) (grown .0) images′ before own normal in
+                seen = λ 𝓢. let (H, o, v) = e .stage 𝓢 in
+                    let (normal, image) = visit-image 𝓢 o whole i in
+                    let r = visit-standard 𝓢 o m v w image _ adds k refl standard′ listed-more (more .count) (adds .grown .0) images′ before (stored .own) normal in
                     (H, r .0, r .1);
               }
                 where
-                  before : (j : ℕ) → j < standard .count → imageAt images′ j ≡ imageAt images j
-                  before j u = ap (λ x. getD x j (record { c = [] })) stored ∙ getD-set-other (images .rows) (standard .count) j w (record { c = [] }) (omega arith)
+                  adds : Adds t rs w (record { rows = rs′; found = Pivot k; combination = q .combination })
+                  adds = adds-inserted t rs w x left k first q made rs′ inserted (e .kept .rows-size) (e .kept .sound) rows-room
 
-                  own : imageAt images′ (standard .count) ≡ w
-                  own = ap (λ x. getD x (standard .count) (record { c = [] })) stored ∙ getD-set-same (images .rows) (standard .count) w (record { c = [] }) (omega (arith, standard-room, e .kept .images-size))
+                  before : (j : ℕ) → j < standard .count → imageAt images′ j ≡ imageAt images j
+                  before j u = stored .others j (omega (arith, standard-room)) (λ f. omega (arith, f))
 
                   taken : take (standard′ .count) (standard′ .monomials) ≡ take (standard .count) (standard .monomials) ++ (m ∷ [])
                   taken = ap₂ take (more .count) (more .monomials) ∙ take-suc-set (standard .monomials) (standard .count) m (omega (arith, standard-room, e .kept .standard-size))
@@ -196,12 +201,14 @@ module _ (t : Reciprocals) (n : ℕ) (s : List ℕ) (l : Irreducibles) (tables :
                   listed-more : listed n standard′ ≡ listed n standard ++ (row n m ∷ [])
                   listed-more = ap₂ (rowsOf n) (more .count) (more .monomials) ∙ rows-store n (standard .count) (standard .monomials) m (omega (arith, standard-room, e .kept .standard-size))
 
-            pub after-line : a .found ≡ Dependent → {g : Generator} → WrittenLine (t .p) n m (a .combination) standard g → {ls′ : Leads} → (ls′ .count ≡ suc (ls .count)) × (ls′ .monomials ≡ set (ls .monomials) (ls .count) m)
-                → {gs′ : List Generator} → gs′ ≡ set gs (ls .count) g → VisitedOnce (ls .count + standard .count) (a .rows) images standard ls′ gs′ m
-            after-line dependent {g} written {ls′} (count, leads) {gs′} stored = record {
+            pub after-line : FirstPlace (x .row) Dependent → {c : Coordinates} → Dependence (t .p) x c → {g : Generator} → WrittenLine (t .p) n m c standard g
+                → {ls′ : Leads} → (ls′ .count ≡ suc (ls .count)) × (ls′ .monomials ≡ set (ls .monomials) (ls .count) m)
+                → {gs′ : List Generator} → gs′ ≡ set gs (ls .count) g → VisitedOnce (ls .count + standard .count) rs images standard ls′ gs′ m
+            after-line none {c} opposite {g} written {ls′} (count, leads) {gs′} stored = record {
               kept = record {
-                sound = adds .sound;
-                used = ap (λ r. r .used) same ∙ e .kept .used;
+                sound = e .kept .sound;
+                rows-size = e .kept .rows-size;
+                used = e .kept .used;
                 images-size = e .kept .images-size;
                 images-below = e .kept .images-below;
                 standard-size = e .kept .standard-size;
@@ -214,12 +221,9 @@ module _ (t : Reciprocals) (n : ℕ) (s : List ℕ) (l : Irreducibles) (tables :
               count = omega (arith, count);
               seen = λ 𝓢. let (H, q, v) = e .stage 𝓢 in
                   visit-line 𝓢 q m v w (visit-image 𝓢 q whole i .1)
-                  a adds dependent g written gs′ stored room ls′ leads-more count same;
+                  _ (adds-dependent t rs w x left c none opposite (e .kept .sound)) refl g written gs′ stored room ls′ leads-more count refl;
             }
               where
-                same : a .rows ≡ rs
-                same = subst (λ f. Grown f rs a) dependent (adds .grown)
-
                 room : ls .count < length gs
                 room = omega (arith, next-lines, e .kept .lines-size)
 

@@ -16,7 +16,8 @@ use Rattle.residue.specs.declared.Residue.{Residue}
 use Rattle.tabtext.specs.Sizes.{most-standard}
 use Rattle.multiplication.specs.Rows.{coordinate, Below}
 use Rattle.multiplication.specs.declared.coordinates.Coordinates.{Coordinates}
-use Rattle.fglm.proofs.VectorEntries.{past-end, Whole}
+use Rattle.fglm.specs.Vectors.{Whole}
+use Rattle.fglm.proofs.VectorEntries.{past-end}
 
 pub record FilledVector (p : ℕ) (f : ℕ → ℕ) (w : Coordinates) (k : ℕ) : Type 0 where
   pub within : k ≤ most-standard

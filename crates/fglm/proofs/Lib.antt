@@ -1,19 +1,19 @@
 -- The theorems of the crate `fglm`, besides those of its functions:
 --   Residues          the residues that the code's numbers stand for
---   WordQuotients     remainders modulo p by a product
 --   VectorEntries     lists of residues, from the entries of vectors of the code
 --   FilledVectors     the loops of `subtract_multiple` and `multiply`
 --   UnitVectors       vectors that are one at one place
 --   FirstPlaces       the first place of a vector that is not zero
 --   ListElimination   row elimination over lists of residues, as it computes
 --   RowSteps          steps of the elimination on one row
---   Reducing          the loop of `add`
+--   Reducing          the loop of `remainder`
 --   Clearing          the loop of `insert`
---   Adding            what `add` makes of what is left of a vector
+--   Adding            what is left of a vector, added to the rows
 --   Promise           what `Rows` promises of the images of monomials
 --   PlacedTerms       the terms of minus a combination, by the places of its coefficients
 --   LineTerms         the terms of the line of a dependent monomial
 --   VariableSearch    the loop of `first_variable`
+--   ImageArrays       the rows of the standard monomials in one array
 --   RowImages         the rules that `image_of` goes by
 --   NormalImages      the rows of the code as images of monomials
 --   WrittenMore       lines in the order of a list of monomials, and one monomial more
@@ -21,7 +21,6 @@
 --   EnumerationLoop   the loop of `enumerate`
 --   BasisLines        the enumeration for the lines of a basis of the code
 pub mod Residues
-pub mod WordQuotients
 pub mod VectorEntries
 pub mod FilledVectors
 pub mod UnitVectors
@@ -35,6 +34,7 @@ pub mod Promise
 pub mod PlacedTerms
 pub mod LineTerms
 pub mod VariableSearch
+pub mod ImageArrays
 pub mod RowImages
 pub mod NormalImages
 pub mod WrittenMore

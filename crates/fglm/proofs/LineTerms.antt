@@ -41,12 +41,12 @@ use Rattle.reduction.proofs.ArrayRows.{blank, rows-length, rows-at}
 use Rattle.multiplication.specs.Rows.{coordinate}
 use Rattle.multiplication.specs.Listed.{listed, listedAt}
 use Rattle.multiplication.specs.declared.coordinates.Coordinates.{Coordinates}
-use Rattle.fglm.specs.Vectors.{vector}
+use Rattle.fglm.specs.Vectors.{vector, Whole}
 use Rattle.fglm.specs.Found.{PrintableLine}
 use Rattle.fglm.specs.WrittenLines.{termsAs, WrittenLine}
 use Rattle.fglm.proofs.Residues.{residue-zero, residue-one, residue-negation, residue-nonzero}
 use Rattle.fglm.proofs.PlacedTerms.{placed, placed-ordered}
-use Rattle.fglm.proofs.VectorEntries.{Whole, vector-entry, length-vector}
+use Rattle.fglm.proofs.VectorEntries.{vector-entry, length-vector}
 
 negation-positive : (p c : ℕ) → 0 < c → c < p → negation p c ≡ p - c
 unfolding negation

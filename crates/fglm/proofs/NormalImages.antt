@@ -33,12 +33,12 @@ use Rattle.multiplication.specs.Listed.{listed, listedAt}
 use Rattle.multiplication.specs.declared.coordinates.Coordinates.{Coordinates}
 use Rattle.multiplication.specs.declared.coordinates.Tables.{Tables}
 use Rattle.multiplication.proofs.UnitRows.{indicator-same, indicator-other}
+use Rattle.fglm.specs.Vectors.{Whole}
 use Rattle.fglm.specs.Images.{Image}
 use Rattle.fglm.specs.ImageRows.{imageAt, OneRow, ImageRule, ImageRow}
 use Rattle.fglm.specs.ImageRows.ImageRule.{of-one, of-product}
-use Rattle.fglm.specs.declared.image.Images as code
 use Rattle.fglm.proofs.Residues.{residue-zero, residue-one}
-use Rattle.fglm.proofs.VectorEntries.{Whole, vector-entry}
+use Rattle.fglm.proofs.VectorEntries.{vector-entry}
 
 module _ (p : ℕ) (h : 1 < p) (n : ℕ) {lt : Row n → Row n → Type 0} (𝓟 : PolynomialRing (modulo p h) (rows n)) (ord : MonomialOrder (rows n) lt) (G : List (Line (ZMod p) (Row n))) (low : Low lt G)
     (l : Irreducibles) (size : length (listed n l) ≡ l .count) where
@@ -82,7 +82,7 @@ module _ (p : ℕ) (h : 1 < p) (n : ℕ) {lt : Row n → Row n → Type 0} (𝓟
             other q e = by-cases (decLt k (o .place)) (λ v. o .is .first k v e)
                 (λ v. q (at-once B (one n) (lists .once) k (o .place) u (omega (arith, u)) (e ∙ sym (o .is .found (omega (arith, u, size))))))
 
-    pub image-normal : {m : Monomial} {found : code.Images} {standard : Irreducibles} {r : Coordinates}
+    pub image-normal : {m : Monomial} {found : List ℕ} {standard : Irreducibles} {r : Coordinates}
         → ((s : ℕ) → s < standard .count → Normal (listedAt n standard s) (imageAt found s)) → ImageRow p n m found standard t l r → Normal (row n m) r
     image-normal {m} {found} {standard} {r} normal i = at (i .rule)
       where

@@ -31,8 +31,8 @@ use Rattle.multiplication.specs.declared.coordinates.Coordinates.{Coordinates}
 use Rattle.fglm.specs.Vectors.{vector}
 use Rattle.fglm.specs.RowState.{State, reducedRow, state, Sound}
 use Rattle.fglm.specs.Elimination.{inverse, eliminated, nothing, answer, told, outcome, Adds}
+use Rattle.fglm.specs.Elimination as code
 use Rattle.fglm.specs.Images.{Image, EchelonOf, Answers}
-use Rattle.fglm.specs.declared.elimination.Added as code
 use Rattle.fglm.specs.declared.elimination.Rows.{Rows}
 use Rattle.fglm.specs.declared.vectors.Found.{Found}
 use Rattle.fglm.specs.declared.vectors.Found.the-variants.{Pivot, Dependent}

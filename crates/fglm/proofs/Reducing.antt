@@ -1,11 +1,12 @@
--- The loop of `add`: what is left of v, less one row a turn.
---   LeftOf p s v x          x is what the rows s leave of v
+-- The loop of `remainder`: what is left of v, less one row a turn.
 --   Reducing p s v x₀ x i   x is x₀ less the first i rows times v's entries at their pivots
 --   rows-from, no-rows-from the rows from the i-th on
 --   reducing-start          before the first turn
 --   reducing-turn           a turn subtracts row i
+--   reducing-skip           or passes it over where the entry is zero
+--   reducing-is             so it is of what is equal to x
 --   reducing-stop           after the last turn
-use mathlib.Core.Path.{_≡_, refl, sym, _∙_, ap}
+use mathlib.Core.Path.{_≡_, refl, sym, _∙_, ap, subst}
 use mathlib.Core.List.{[], _∷_}
 use Prim.Native.Nat.{ℕ, suc, _+_, _<_, _≤_}
 use native.Mathlib.Numerals.{add-one}
@@ -17,19 +18,14 @@ use Rattle.reduction.specs.Generators.{residue}
 use Rattle.multiplication.specs.Rows.{coordinate, Below}
 use Rattle.multiplication.specs.declared.coordinates.Coordinates.{Coordinates}
 use Rattle.fglm.specs.Vectors.{vector, Represents, unitVector}
-use Rattle.fglm.specs.RowState.{remainder, reducedRow, noRow, rowAt, state}
-use Rattle.fglm.specs.Elimination.{reduced, nothing}
+use Rattle.fglm.specs.RowState.{remainder, reducedRow, noRow, rowAt, state, SoundRow}
+use Rattle.fglm.specs.Elimination.{reduced, nothing, LeftOf}
 use Rattle.fglm.specs.Steps.{LessRow}
 use Rattle.fglm.specs.declared.elimination.Remainder.{Remainder}
 use Rattle.fglm.specs.declared.elimination.Rows.{Rows}
 use Rattle.fglm.proofs.VectorEntries.{vector-entry}
+use Rattle.fglm.proofs.RowSteps.{WholeRemainder, less-none}
 use Rattle.fglm.proofs.ListElimination.{less, reduced-none, reduced-more}
-
--- x is what the rows s leave of v.
-pub record LeftOf (p : ℕ) (s : Rows) (v : Coordinates) (x : Remainder) : Type 0 where
-  pub row-below : Below p (x .row)
-  pub combination-below : Below p (x .combination)
-  pub left : (h : 1 < p) (field : Field (modulo p h)) → remainder p h x ≡ reduced p h field (nothing p) (state p h s) (record { vector = vector p h v; combination = unitVector p (s .used) h }) (vector p h v)
 
 module _ (p : ℕ) (h : 1 < p) where
   -- The rows from the i-th on.
@@ -44,17 +40,22 @@ module _ (p : ℕ) (h : 1 < p) where
 
 pub record Reducing (p : ℕ) (s : Rows) (v : Coordinates) (x₀ x : Remainder) (i : ℕ) : Type 0 where
   pub within : i ≤ s .used
+  pub whole : WholeRemainder x
   pub row-below : Below p (x .row)
   pub combination-below : Below p (x .combination)
   pub left : (h : 1 < p) (field : Field (modulo p h)) → reduced p h field (nothing p) (drop i (state p h s)) (remainder p h x) (vector p h v) ≡ reduced p h field (nothing p) (state p h s) (remainder p h x₀) (vector p h v)
 
+pub reducing-is : {p : ℕ} {s : Rows} {v : Coordinates} {x₀ x y : Remainder} {i : ℕ} → y ≡ x → Reducing p s v x₀ x i → Reducing p s v x₀ y i
+reducing-is {p} {s} {v} {x₀} {i = i} e r = subst (λ z. Reducing p s v x₀ z i) (sym e) r
+
 module _ (p : ℕ) (s : Rows) (v : Coordinates) (x₀ : Remainder) where
-  pub reducing-start : Below p (x₀ .row) → Below p (x₀ .combination) → Reducing p s v x₀ x₀ 0
-  reducing-start a b = record { within = omega arith; row-below = a; combination-below = b; left = λ h field. refl }
+  pub reducing-start : WholeRemainder x₀ → Below p (x₀ .row) → Below p (x₀ .combination) → Reducing p s v x₀ x₀ 0
+  reducing-start w a b = record { within = omega arith; whole = w; row-below = a; combination-below = b; left = λ h field. refl }
 
   pub reducing-turn : (x y : Remainder) (i c : ℕ) → Reducing p s v x₀ x i → i < s .used → s .used ≤ length (s .rows) → c ≡ coordinate v (rowAt s i .pivot) → LessRow p x c (rowAt s i) y → Reducing p s v x₀ y (i + 1)
   reducing-turn x y i c r l m e q = record {
     within = omega arith;
+    whole = (q .row .whole, q .combination .whole);
     row-below = q .row .below;
     combination-below = q .combination .below;
     left = λ h field.
@@ -66,6 +67,9 @@ module _ (p : ℕ) (s : Rows) (v : Coordinates) (x₀ : Remainder) where
     where
       is : (h : 1 < p) → remainder p h y ≡ less p h (remainder p h x) (residue p h c) (reducedRow p h (rowAt s i) .row)
       is h = λ j. record { vector = q .row .residues h j; combination = q .combination .residues h j }
+
+  pub reducing-skip : (x : Remainder) (i c : ℕ) → Reducing p s v x₀ x i → i < s .used → s .used ≤ length (s .rows) → c ≡ coordinate v (rowAt s i .pivot) → 1 < p → SoundRow p (rowAt s i) → c ≡ 0 → Reducing p s v x₀ x (i + 1)
+  reducing-skip x i c r l m e h u z = reducing-turn x x i c r l m e (less-none p x c (rowAt s i) h (r .whole) (r .row-below) (r .combination-below) u z)
 
   pub reducing-stop : (x : Remainder) (i : ℕ) → Reducing p s v x₀ x i → s .used ≤ i → s .used ≤ length (s .rows) → x₀ .row ≡ v → Represents p (x₀ .combination) (unitVector p (s .used)) → LeftOf p s v x
   reducing-stop x i r l m e u = record {

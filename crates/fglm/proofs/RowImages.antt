@@ -4,6 +4,7 @@
 --   image-one            the row of 1 as that of m
 --   image-product        the row of x_i·b as that of m
 use mathlib.Core.Path.{_≡_, sym, _∙_, subst}
+use mathlib.Core.List.{List}
 use mathlib.Core.Logic.{by-cases}
 use Prim.Native.Nat.{ℕ, _≤_, _<_}
 use native.Mathlib.Decide.{decLt}
@@ -23,7 +24,6 @@ use Rattle.multiplication.specs.declared.coordinates.Tables.{Tables}
 use Rattle.multiplication.proofs.UnitRows.{indicator-other, indicator-below}
 use Rattle.fglm.specs.ImageRows.{imageAt, OneRow, DivisorsFound, ImageRow}
 use Rattle.fglm.specs.ImageRows.ImageRule.{of-one, of-product}
-use Rattle.fglm.specs.declared.image.Images.{Images}
 
 module _ (n : ℕ) (l : Irreducibles) (r : Coordinates) (k : ℕ) (place : Place n (listed n l) (l .count) (one n) k) where
   pub one-listed : k < l .count → ((j : ℕ) → coordinate r j ≡ indicator j k) → OneRow n l r
@@ -37,7 +37,7 @@ divisor-place n l full m b i h e d r q =
     let (k, u, f) = place-of (one n) (d i h b e) in
     by-cases (decLt r (l .count)) (λ v. v) (λ v. absurd (q .first k (omega (arith, u, rows-length n (l .count) (l .monomials) full)) f))
 
-module _ {p n : ℕ} {m : Monomial} {found : Images} {standard : Irreducibles} {t : Tables} {l : Irreducibles} where
+module _ {p n : ℕ} {m : Monomial} {found : List ℕ} {standard : Irreducibles} {t : Tables} {l : Irreducibles} where
   pub image-one : {r : Coordinates} → 1 < p → row n m ≡ one n → OneRow n l r → ImageRow p n m found standard t l r
   image-one {r} h e o = record {
     below = record {
@@ -47,6 +47,6 @@ module _ {p n : ℕ} {m : Monomial} {found : Images} {standard : Irreducibles} {
     rule = of-one e o;
   }
 
-  pub image-product : {r : Coordinates} (i s : ℕ) → i < n → s < standard .count → row n m ≡ product n (variable n i) (listedAt n standard s)
-      → Multiplied p t i (imageAt found s) (l .count) r → ImageRow p n m found standard t l r
-  image-product i s hi hs e a = record { below = a .below; zeros = a .zeros; rule = of-product i s hi hs e (a .coordinates) }
+  pub image-product : {r w : Coordinates} (i s : ℕ) → i < n → s < standard .count → row n m ≡ product n (variable n i) (listedAt n standard s)
+      → w ≡ imageAt found s → Multiplied p t i w (l .count) r → ImageRow p n m found standard t l r
+  image-product {r} i s hi hs e q a = record { below = a .below; zeros = a .zeros; rule = of-product i s hi hs e (subst (λ v. Multiplied p t i v (l .count) r) q a .coordinates) }

@@ -14,9 +14,9 @@ use Rattle.reduction.specs.Generators.{residue}
 use Rattle.multiplication.specs.Rows.{coordinate, indicator}
 use Rattle.multiplication.specs.declared.coordinates.Coordinates.{Coordinates}
 use Rattle.multiplication.proofs.UnitRows.{indicator-same, indicator-other}
-use Rattle.fglm.specs.Vectors.{vector, Represents, unitVector}
+use Rattle.fglm.specs.Vectors.{vector, Represents, unitVector, Whole}
 use Rattle.fglm.proofs.Residues.{residue-zero, residue-one}
-use Rattle.fglm.proofs.VectorEntries.{vector-is, Whole}
+use Rattle.fglm.proofs.VectorEntries.{vector-is}
 
 module _ (p : ℕ) (r : Coordinates) (whole : Whole r) (above : 1 < p) (i : ℕ) where
   by-place : ((k : ℕ) → k < most-standard → k ≡ i → coordinate r k ≡ 1) → ((k : ℕ) → ¬ (k ≡ i) → coordinate r k ≡ 0) → (h : 1 < p) → vector p h r ≡ unitVector p i h
@@ -34,6 +34,7 @@ module _ (p : ℕ) (r : Coordinates) (whole : Whole r) (above : 1 < p) (i : ℕ)
 
   pub unit-represented : ((k : ℕ) → coordinate r k ≡ indicator k i) → Represents p r (unitVector p i)
   unit-represented e = record {
+    whole = whole;
     below = record { below = λ k. by-cases (ℕ-discrete k i) (λ q. subst (_< p) (sym (own k q)) above) (λ n. subst (_< p) (sym (other k n)) (omega arith)) };
     residues = by-place (λ k l. own k) other;
   }
@@ -46,6 +47,7 @@ module _ (p : ℕ) (r : Coordinates) (whole : Whole r) (above : 1 < p) (i : ℕ)
 
   pub zero-represented : most-standard ≤ i → ((k : ℕ) → coordinate r k ≡ 0) → Represents p r (unitVector p i)
   zero-represented l z = record {
+    whole = whole;
     below = record { below = λ k. subst (_< p) (sym (z k)) (omega arith) };
     residues = by-place (λ k m q. absurd (omega arith)) (λ k n. z k);
   }

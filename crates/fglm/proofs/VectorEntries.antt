@@ -3,7 +3,6 @@
 --   vector-entry         an entry of a vector as a residue
 --   length-vector        as many as the vector has
 --   vector-is            the list of a vector, by its entries
---   Whole w              the vector has most-standard entries, as each of the code has
 --   subtracted-entries   a - c·b, by its entries
 --   multiplied-entries   c·a, by its entries
 --   subtracted-none      a - 0·b is a
@@ -22,7 +21,7 @@ use Rattle.groebner.proofs.CoefficientRows.{length-subtract-same, length-multip
 use Rattle.reduction.specs.Generators.{residue}
 use Rattle.multiplication.specs.Rows.{coordinate, Below}
 use Rattle.multiplication.specs.declared.coordinates.Coordinates.{Coordinates}
-use Rattle.fglm.specs.Vectors.{vector, Represents, subtracted, multiplied}
+use Rattle.fglm.specs.Vectors.{vector, Whole, Represents, subtracted, multiplied}
 use Rattle.fglm.proofs.Residues.{residue-zero, residue-times, residue-less}
 
 pub past-end : (w : Coordinates) (k : ℕ) → length (w .c) ≤ k → coordinate w k ≡ 0
@@ -40,14 +39,11 @@ module _ (p : ℕ) (h : 1 < p) where
   pub vector-is : (w : Coordinates) (l : List (ZMod p)) → length (w .c) ≡ length l → ((k : ℕ) → k < length l → residue p h (coordinate w k) ≡ getD l k (modulo p h .zero)) → vector p h w ≡ l
   vector-is w l s e = ext-getD (modulo p h .zero) (vector p h w) l (length-vector w ∙ s) (λ k m. vector-entry w k ∙ e k (omega (arith, length-vector w)))
 
--- A vector of the code has most-standard entries.
-abbrev pub Whole : Coordinates → Type 0
-Whole w = length (w .c) ≡ most-standard
-
 module _ (p : ℕ) (r : Coordinates) (whole : Whole r) (below : Below p r) where
   pub subtracted-entries : (a b : Coordinates) (c : ℕ) → Whole a → Whole b → c < p
       → ((k : ℕ) → k < most-standard → coordinate r k ≡ (coordinate a k + (p - c) * coordinate b k) % p) → Represents p r (subtracted p a c b)
   subtracted-entries a b c u v m e = record {
+    whole = whole;
     below = below;
     residues = λ h. vector-is p h r _ (whole ∙ sym (size h)) (λ k l. ap (residue p h) (e k (omega (arith, l, size h)))
         ∙ residue-less p h (coordinate a k) c (coordinate b k) m
@@ -60,6 +56,7 @@ module _ (p : ℕ) (r : Coordinates) (whole : Whole r) (below : Below p r) where
   pub multiplied-entries : (a : Coordinates) (c : ℕ) → Whole a
       → ((k : ℕ) → k < most-standard → coordinate r k ≡ c * coordinate a k % p) → Represents p r (multiplied p c a)
   multiplied-entries a c u e = record {
+    whole = whole;
     below = below;
     residues = λ h. vector-is p h r _ (whole ∙ sym (size h)) (λ k l. ap (residue p h) (e k (omega (arith, l, size h)))
         ∙ residue-times p h c (coordinate a k)

@@ -62,18 +62,16 @@ use Rattle.reduction.specs.declared.leads.Leads.{Leads}
 use Rattle.multiplication.specs.Listed.{listed, listedAt}
 use Rattle.multiplication.specs.declared.coordinates.Coordinates.{Coordinates}
 use Rattle.multiplication.specs.declared.coordinates.Tables.{Tables}
+use Rattle.fglm.specs.Vectors.{Whole}
 use Rattle.fglm.specs.Vectors as vectors
 use Rattle.fglm.specs.RowState.{state}
-use Rattle.fglm.specs.Elimination.{Adds}
+use Rattle.fglm.specs.Elimination.{Added, Adds}
 use Rattle.fglm.specs.Images.{Image, EchelonOf, Answers}
 use Rattle.fglm.specs.ImageRows.{imageAt, DivisorsFound, ImageRow}
 use Rattle.fglm.specs.WrittenLines.{WrittenLine}
 use Rattle.fglm.specs.Enumerable.{Enumerable}
-use Rattle.fglm.specs.declared.elimination.Added.{Added}
 use Rattle.fglm.specs.declared.elimination.Rows.{Rows}
-use Rattle.fglm.specs.declared.image.Images as code
 use Rattle.fglm.specs.declared.vectors.Found.the-variants.{Pivot, Dependent}
-use Rattle.fglm.proofs.VectorEntries.{Whole}
 use Rattle.fglm.proofs.NormalImages.{Normal, image-normal, normal-image}
 use Rattle.fglm.proofs.Promise.{state-none, no-rows, answers-found}
 use Rattle.fglm.proofs.WrittenMore.{written-append, written-more, multiple-reducible}
@@ -131,7 +129,7 @@ module _ {t : Reciprocals} {n : ℕ} {s : List ℕ} {l : Irreducibles} {tables :
   Stage H B false m = AllSeen n 𝓥 L lt H B
 
   -- The state stands for lines H and the standard monomials.
-  pub record Progressed (rs : Rows) (images : code.Images) (standard : Irreducibles) (ls : Leads) (gs : List Generator) (H : List (Line F (Row n))) : Type 0 where
+  pub record Progressed (rs : Rows) (images : List ℕ) (standard : Irreducibles) (ls : Leads) (gs : List Generator) (H : List (Line F (Row n))) : Type 0 where
     pub echelon : EchelonOf p h field L (state p h rs) (listed n standard)
     pub used : rs .used ≡ length (listed n standard)
     pub count : length (listed n standard) ≡ standard .count
@@ -140,7 +138,7 @@ module _ {t : Reciprocals} {n : ℕ} {s : List ℕ} {l : Irreducibles} {tables :
     pub lead-count : length H ≡ ls .count
     pub lines : generators p h n (map (termsIn n) (take (ls .count) gs)) ≡ written field (rows n) (listed n standard) H
 
-  module _ {rs : Rows} {images : code.Images} {standard : Irreducibles} {ls : Leads} {gs : List Generator} {H : List (Line F (Row n))} (q : Progressed rs images standard ls gs H) where
+  module _ {rs : Rows} {images : List ℕ} {standard : Irreducibles} {ls : Leads} {gs : List Generator} {H : List (Line F (Row n))} (q : Progressed rs images standard ls gs H) where
     abbrev B : List (Row n)
     B = listed n standard
 
@@ -195,7 +193,7 @@ module _ {t : Reciprocals} {n : ℕ} {s : List ℕ} {l : Irreducibles} {tables :
           new = (row n m, negate (modulo p h) (terms B (vectors.vector p h (a .combination))))
 
       pub visit-standard : (k : ℕ) → a .found ≡ Pivot k → (standard′ : Irreducibles) → listed n standard′ ≡ B ++ (row n m ∷ []) → standard′ .count ≡ suc (standard .count) → a .rows .used ≡ rs .used + 1
-          → (images′ : code.Images) → ((k : ℕ) → k < standard .count → imageAt images′ k ≡ imageAt images k) → imageAt images′ (standard .count) ≡ w → NormalAt (row n m) w
+          → (images′ : List ℕ) → ((k : ℕ) → k < standard .count → imageAt images′ k ≡ imageAt images k) → imageAt images′ (standard .count) ≡ w → NormalAt (row n m) w
           → Progressed (a .rows) images′ standard′ ls gs H × Seen n 𝓥 L lt (UpTo lt (row n m)) H (listed n standard′)
       visit-standard k d standard′ more count used images′ before own normal = (
         record {
@@ -234,7 +232,7 @@ module _ {t : Reciprocals} {n : ℕ} {s : List ℕ} {l : Irreducibles} {tables :
         (seen-outcome n (ground p prime n) (grevlex-order n) ord (next n s) (next-lex n s ranking) G (en .low) (en .groebner) (listed n l) (en .lists) H B v))
 
   -- At first nothing is found.
-  pub progressed-none : (rs : Rows) (images : code.Images) (standard : Irreducibles) (ls : Leads) (gs : List Generator) → rs .used ≡ 0 → standard .count ≡ 0 → ls .count ≡ 0
+  pub progressed-none : (rs : Rows) (images : List ℕ) (standard : Irreducibles) (ls : Leads) (gs : List Generator) → rs .used ≡ 0 → standard .count ≡ 0 → ls .count ≡ 0
       → Progressed rs images standard ls gs [] × Stage [] (listed n standard) true (one n)
   unfolding rowsOf generators written rows
   progressed-none rs images standard ls gs e f g = (

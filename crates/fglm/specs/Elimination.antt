@@ -3,8 +3,9 @@
 --   reduced p h field L rs x v  x less each of the rows rs times v's entry at its pivot
 --   eliminated p h field L reciprocal rs k v   the answer of row elimination to v, after k vectors
 --   nothing p                   the combinations of the code are of no images
+--   LeftOf p s v x              x is what the rows s leave of v
 --   answer t prime s v          the answer of row elimination to a vector of the code
---   told f c rs, outcome p h a  an answer of the code as lists of residues
+--   Added                       an answer over the code's rows; told f c rs, outcome p h a: as lists of residues
 --   Room t s v                  a row is left if v is to have one
 --   Grown f s a                 how the rows change
 --   Adds t s v a                a is the answer to v, added to the rows s
@@ -24,9 +25,9 @@ use Rattle.groebner.proofs.RowElimination.{reduce-row, add-vector}
 use Rattle.reduction.specs.Generators.{residue}
 use Rattle.multiplication.specs.Rows.{Below}
 use Rattle.multiplication.specs.declared.coordinates.Coordinates.{Coordinates}
-use Rattle.fglm.specs.Vectors.{vector}
-use Rattle.fglm.specs.RowState.{AugmentedRow, State, rowAt, state, Sound}
-use Rattle.fglm.specs.declared.elimination.Added.{Added}
+use Rattle.fglm.specs.Vectors.{vector, unitVector}
+use Rattle.fglm.specs.RowState.{AugmentedRow, State, remainder, rowAt, state, Sound}
+use Rattle.fglm.specs.declared.elimination.Remainder.{Remainder}
 use Rattle.fglm.specs.declared.elimination.Rows.{Rows}
 use Rattle.fglm.specs.declared.vectors.Found.{Found}
 use Rattle.fglm.specs.declared.vectors.Found.the-variants.{Pivot, Dependent}
@@ -51,10 +52,23 @@ module _ (p : ℕ) (h : 1 < p) (field : Field (modulo p h)) {M : Type 0} (L : M 
 abbrev pub nothing : (p : ℕ) → ⊥ → ℕ → ZMod p
 nothing p e k = absurd e
 
+-- x is what the rows s leave of v, and the combination that this is.
+pub record LeftOf (p : ℕ) (s : Rows) (v : Coordinates) (x : Remainder) : Type 0 where
+  pub row-below : Below p (x .row)
+  pub combination-below : Below p (x .combination)
+  pub left : (h : 1 < p) (field : Field (modulo p h)) → remainder p h x ≡ reduced p h field (nothing p) (state p h s) (record { vector = vector p h v; combination = unitVector p (s .used) h }) (vector p h v)
+
 -- The answer to a vector of the code.
 unfoldable pub answer : (t : Reciprocals) → Prime (t .p) → Rows → Coordinates → List (ZMod (t .p)) ⊎ State (t .p)
 unfolding eliminated state vector inverse
 answer t prime s v = eliminated (t .p) (prime .above-one) (residue-field (t .p) prime) (nothing (t .p)) (inverse t (prime .above-one)) (state (t .p) (prime .above-one) s) (s .used) (vector (t .p) (prime .above-one) v)
+
+-- The rows anew, and how the vector was found: with a pivot of its own and the combination of its row,
+-- or dependent with the combination of the vectors before it that it is.
+pub record Added : Type 0 where
+  pub rows : Rows
+  pub found : Found
+  pub combination : Coordinates
 
 -- Which of the two is told: a combination, or rows.
 abbrev pub told : {A B : Type 0} → Found → A → B → A ⊎ B

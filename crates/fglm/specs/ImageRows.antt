@@ -1,5 +1,7 @@
 -- The row of a monomial, from the rows of the standard monomials found before.
---   imageAt f s             the row of the standard monomial at place s
+--   most-images             the number of the coefficients of the rows of all standard monomials
+--   imageAt l s             of these coefficients, the row of the standard monomial at place s
+--   ImagePut l s w l′       l′ has the row w at place s, and the other rows of l
 --   FirstVariable n m r     r is the first variable that divides m, or n where none does
 --   OneRow n l r            r is one at the place of 1 in the list l, and zero elsewhere
 --   DivisorsFound n l m     m over any of its variables is in the list l
@@ -7,13 +9,14 @@
 --   ImageRow                so it is, its entries are below p, and zero past those of the list l
 use mathlib.Core.Path.{_≡_}
 use mathlib.Core.Bool.{true, false}
-use mathlib.Core.List.{[]}
-use Prim.Native.Nat.{ℕ, _≤_, _<_}
-use lib.ListN.{getD}
+use mathlib.Core.List.{List, map}
+use Prim.Native.Nat.{ℕ, _*_, _≤_, _<_}
+use lib.ListN.{length, take, drop}
 use Rattle.residue.specs.Field.{modulo}
 use Rattle.monomial.specs.Rows.{Row, one, product, divides}
 use Rattle.monomial.specs.Represented.{row}
 use Rattle.monomial.specs.declared.Monomial.{Monomial}
+use Rattle.tabtext.specs.Sizes.{most-standard}
 use Rattle.groebner.specs.Polynomials.{_∈_}
 use Rattle.groebner.proofs.Variables.{variable}
 use Rattle.groebner.proofs.MultiplicationRows.{multiply}
@@ -22,11 +25,20 @@ use Rattle.multiplication.specs.Rows.{coordinate, indicator, Below, coordinates
 use Rattle.multiplication.specs.Listed.{listed, listedAt, Place}
 use Rattle.multiplication.specs.declared.coordinates.Coordinates.{Coordinates}
 use Rattle.multiplication.specs.declared.coordinates.Tables.{Tables}
-use Rattle.fglm.specs.declared.image.Images.{Images}
+
+-- The number of the coefficients of the rows of all standard monomials.
+abbrev pub most-images : ℕ
+most-images = most-standard * most-standard
 
 -- The row of the standard monomial at place s.
-abbrev pub imageAt : Images → ℕ → Coordinates
-imageAt f s = getD (f .rows) s (record { c = [] })
+unfoldable pub imageAt : List ℕ → ℕ → Coordinates
+imageAt l s = record { c = map (λ x. record { 0 = x }) (take most-standard (drop (s * most-standard) l)) }
+
+-- l′ has the row w at place s, and the other rows of l.
+pub record ImagePut (l : List ℕ) (s : ℕ) (w : Coordinates) (l′ : List ℕ) : Type 0 where
+  pub size : length l′ ≡ length l
+  pub own : imageAt l′ s ≡ w
+  pub others : (k : ℕ) → k < most-standard → ¬ (k ≡ s) → imageAt l′ k ≡ imageAt l k
 
 -- r is the first variable that divides m, or n where none does.
 pub record FirstVariable (n : ℕ) (m : Row n) (r : ℕ) : Type 0 where
@@ -45,7 +57,7 @@ pub record OneRow (n : ℕ) (l : Irreducibles) (r : Coordinates) : Type 0 where
 abbrev pub DivisorsFound : (n : ℕ) → Irreducibles → Row n → Type 0
 DivisorsFound n l m = (i : ℕ) → i < n → (b : Row n) → m ≡ product n (variable n i) b → b ∈ listed n l
 
-module _ (p n : ℕ) (m : Monomial) (found : Images) (standard : Irreducibles) (t : Tables) (l : Irreducibles) (r : Coordinates) where
+module _ (p n : ℕ) (m : Monomial) (found : List ℕ) (standard : Irreducibles) (t : Tables) (l : Irreducibles) (r : Coordinates) where
   -- r is the row of 1, or that of x_i times a standard monomial by the rows of the tables.
   pub data ImageRule : Type 0 where
     of-one : row n m ≡ one n → OneRow n l r → ImageRule

@@ -5,7 +5,7 @@
 --   reducedRow p h r          a row of the code
 --   noRow, rowAt s k          row k; noRow stands past the end
 --   state p h s               the rows of the code that are used
---   SoundRow p r, Sound p s   the entries are below p and the pivots below 32; at most 32 rows are used
+--   SoundRow p r, Sound p s   the vectors are whole, the entries below p and the pivots below 32; at most 32 rows are used
 use mathlib.Core.List.{List, [], map}
 use Prim.Native.Nat.{ℕ, _<_, _≤_}
 use lib.ListN.{getD, take}
@@ -14,7 +14,7 @@ use Rattle.tabtext.specs.Sizes.{most-standard}
 use Rattle.groebner.proofs.Echelon.{Pivoted}
 use Rattle.groebner.proofs.RowElimination.{Augmented}
 use Rattle.multiplication.specs.Rows.{Below}
-use Rattle.fglm.specs.Vectors.{vector}
+use Rattle.fglm.specs.Vectors.{vector, Whole}
 use Rattle.fglm.specs.declared.elimination.Reduced.{Reduced}
 use Rattle.fglm.specs.declared.elimination.Remainder.{Remainder}
 use Rattle.fglm.specs.declared.elimination.Rows.{Rows}
@@ -51,9 +51,11 @@ rowAt s k = getD (s .rows) k noRow
 unfoldable pub state : (p : ℕ) → 1 < p → Rows → State p
 state p h s = map (reducedRow p h) (take (s .used) (s .rows))
 
--- The pivot is a place of the vectors, and the entries are below p.
+-- The pivot is a place of the vectors, these are whole, and their entries are below p.
 pub record SoundRow (p : ℕ) (r : Reduced) : Type 0 where
   pub place : r .pivot < most-standard
+  pub row-whole : Whole (r .row)
+  pub combination-whole : Whole (r .combination)
   pub row-below : Below p (r .row)
   pub combination-below : Below p (r .combination)
 

@@ -1,7 +1,7 @@
 -- Vectors of residues that the code holds, as lists.
---   word                    one more than the largest number of 16 bits
 --   vector p h w            the coefficients of w as residues
---   Represents p w l        the coefficients of w are below p, and as residues they are l
+--   Whole w                 w has most-standard entries, as each vector of the code has
+--   Represents p w l        so it is, the coefficients of w are below p, and as residues they are l
 --   subtracted p a c b      a - c·b
 --   multiplied p c a        c·a
 --   unitVector p k          one at place k, zero elsewhere; all zero if there is no place k
@@ -9,6 +9,7 @@
 use mathlib.Core.Path.{_≡_}
 use mathlib.Core.List.{List, map}
 use Prim.Native.Nat.{ℕ, _<_}
+use lib.ListN.{length}
 use Rattle.residue.specs.Field.{ZMod, modulo}
 use Rattle.tabtext.specs.Sizes.{most-standard}
 use Rattle.groebner.proofs.CoefficientRows.{subtract-multiple, multiply, unit-array}
@@ -18,16 +19,17 @@ use Rattle.multiplication.specs.declared.coordinates.Coordinates.{Coordinates}
 use Rattle.fglm.specs.declared.vectors.Found.{Found}
 use Rattle.fglm.specs.declared.vectors.Found.the-variants.{Pivot, Dependent}
 
--- One more than the largest number of 16 bits.
-abbrev pub word : ℕ
-word = 65536
-
 -- The coefficients of w as residues.
 unfoldable pub vector : (p : ℕ) → 1 < p → Coordinates → List (ZMod p)
 vector p h w = map (λ x. residue p h (x .0)) (w .c)
 
+-- The vector has most-standard entries, as each of the code has.
+abbrev pub Whole : Coordinates → Type 0
+Whole w = length (w .c) ≡ most-standard
+
 -- The coefficients of w are below p, and as residues they are l.
 pub record Represents (p : ℕ) (w : Coordinates) (l : 1 < p → List (ZMod p)) : Type 0 where
+  pub whole : Whole w
   pub below : Below p w
   pub residues : (h : 1 < p) → vector p h w ≡ l h
 

@@ -1,13 +1,14 @@
 // Row elimination (document 01, "The walk"): rows in reduced echelon form, each with the combination of the added vectors that it is.
 ghost use mathlib.Core.Path.{_≡_};
 ghost use Prim.Native.Nat.{_<_, _≤_};
-ghost use Rattle.residue.specs.Prime.{Modulus, «largest-modulus»};
+ghost use Rattle.residue.specs.Prime.{«largest-modulus»};
 ghost use Rattle.residue.specs.Reciprocals.{Serves};
 ghost use Rattle.tabtext.specs.Sizes.{«most-standard»};
 ghost use Rattle.multiplication.specs.Rows.{coordinate, Below};
+ghost use Rattle.fglm.specs.Vectors.{FirstPlace};
 ghost use Rattle.fglm.specs.RowState.{SoundRow, Sound};
-ghost use Rattle.fglm.specs.Elimination.{Room, Adds};
-ghost use Rattle.fglm.specs.Steps.{LessRow, Scaled, ClearedRow, Inserted};
+ghost use Rattle.fglm.specs.Elimination.{LeftOf};
+ghost use Rattle.fglm.specs.Steps.{LessRow, Dependence, Scaled, ClearedRow, Inserted};
 use crate::vectors::Found;
 use crate::vectors::first_nonzero;
 use crate::vectors::multiply;
@@ -31,14 +32,6 @@ pub struct Rows {
     pub rows: [Reduced; MAX_STANDARD],
 }
 
-// The rows anew, and how the vector was found: with a pivot of its own and the combination of its row,
-// or dependent with the combination of the vectors before it that it is.
-pub struct Added {
-    pub rows: Rows,
-    pub found: Found,
-    pub combination: Coordinates,
-}
-
 // What is left of a vector, and the combination of the added vectors and it that this is.
 pub struct Remainder {
     pub row: Coordinates,
@@ -46,14 +39,27 @@ pub struct Remainder {
 }
 
 impl Remainder {
-    // Less c times a row; nothing is done where c is 0.
+    // A pivot, if anything is left; else the vector depends on those added before.
+    pub fn found(self) -> Found
+        ensures { λ r. ⌜ FirstPlace (self .row) r ⌝ }
+    {
+        first_nonzero(self.row)
+    }
+
+    // If nothing is left, the combination of the vectors added before that the vector is.
+    pub fn dependence(self, p: u16) -> Coordinates
+        requires { ⌜ (1 < p) × (p ≤ largest-modulus) × Below p (self .combination) ⌝ }
+        ensures { λ r. ⌜ Dependence p self r ⌝ }
+    {
+        let minus_one = Residue::ONE.neg(p);
+        multiply(minus_one, self.combination, p)
+    }
+
+    // Less c times a row.
     fn less(self, c: Residue, r: Reduced, p: u16) -> Remainder
         requires { ⌜ (1 < p) × (p ≤ largest-modulus) × Below p (self .row) × Below p (self .combination) × (c .0 < p) × SoundRow p r ⌝ }
         ensures { λ x. ⌜ LessRow p self (c .0) r x ⌝ }
     {
-        if c.is_zero() {
-            return self;
-        }
         let row = r.row;
         let combination = r.combination;
         Remainder {
@@ -63,7 +69,7 @@ impl Remainder {
     }
 
     // Times the reciprocal of the entry at place k: a row with the pivot k.
-    fn scaled(self, k: usize, reciprocals: Reciprocals) -> Reduced
+    pub fn scaled(self, k: usize, reciprocals: Reciprocals) -> Reduced
         requires { ⌜ (1 < reciprocals .p) × Serves reciprocals × (k < most-standard) × ¬ (coordinate (self .row) k ≡ 0) × Below (reciprocals .p) (self .row) × Below (reciprocals .p) (self .combination) ⌝ }
         ensures { λ q. ⌜ Scaled reciprocals self k q ⌝ }
     {
@@ -115,16 +121,21 @@ impl Rows {
         }
     }
 
-    // Each row less the multiple of q that makes it zero at q's pivot, and then q.
-    fn insert(mut self, q: Reduced, p: u16) -> Rows
+    // Each row less the multiple of q that makes it zero at q's pivot, and then q. A row that is zero there stays as it is.
+    pub fn insert(mut self, q: Reduced, p: u16) -> Rows
         requires { ⌜ (1 < p) × (p ≤ largest-modulus) × Sound p self × SoundRow p q × (self .used < most-standard) ⌝ }
         ensures { λ r. ⌜ Inserted p q self r ⌝ }
     {
         let at = self.used;
+        let k = q.pivot;
         let mut i: usize = 0;
         while i < at {
             let r = self.rows[i];
-            self.rows[i] = r.cleared(q, p);
+            let row = r.row;
+            let c = row.c[k];
+            if c.0 != 0 {
+                self.rows[i] = r.cleared(q, p);
+            }
             i += 1;
         }
         self.rows[at] = q;
@@ -132,13 +143,11 @@ impl Rows {
         self
     }
 
-    // The rows with v added. v less each row times v's entry at its pivot is a row of its own, or it is zero
-    // and v is told from the combinations of the vectors before it.
-    pub fn add(self, v: Coordinates, reciprocals: Reciprocals) -> Added
-        requires { ⌜ Modulus (reciprocals .p) × Serves reciprocals × Sound (reciprocals .p) self × Below (reciprocals .p) v × Room reciprocals self v ⌝ }
-        ensures { λ a. ⌜ Adds reciprocals self v a ⌝ }
+    // v less each row times v's entry at its pivot; a row with the entry 0 is passed over.
+    pub fn remainder(self, v: Coordinates, p: u16) -> Remainder
+        requires { ⌜ (1 < p) × (p ≤ largest-modulus) × Sound p self × Below p v ⌝ }
+        ensures { λ x. ⌜ LeftOf p self v x ⌝ }
     {
-        let p = reciprocals.p;
         let mut x = Remainder {
             row: v,
             combination: unit(self.used, p),
@@ -147,24 +156,12 @@ impl Rows {
         while i < self.used {
             let r = self.rows[i];
             let at = r.pivot;
-            x = x.less(v.c[at], r, p);
+            let c = v.c[at];
+            if c.0 != 0 {
+                x = x.less(c, r, p);
+            }
             i += 1;
         }
-        let row = x.row;
-        let Found::Pivot(k) = first_nonzero(row) else {
-            let minus_one = Residue::ONE.neg(p);
-            return Added {
-                rows: self,
-                found: Found::Dependent,
-                combination: multiply(minus_one, x.combination, p),
-            };
-        };
-        let q = x.scaled(k, reciprocals);
-        let combination = q.combination;
-        Added {
-            rows: self.insert(q, p),
-            found: Found::Pivot(k),
-            combination,
-        }
+        x
     }
 }

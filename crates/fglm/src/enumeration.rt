@@ -5,15 +5,15 @@ ghost use lib.ListN.{take};
 ghost use Rattle.tabtext.specs.Sizes.{«most-standard»};
 ghost use Rattle.fglm.specs.Enumerable.{Convertible, Enumerated, Pushed};
 use crate::elimination::Rows;
-use crate::image::Images;
+use crate::image::MAX_IMAGES;
 use crate::image::image_of;
+use crate::image::put_image;
 use crate::lex_basis::LexBasis;
 use crate::line::line_of;
 use crate::vectors::Found;
 use basis::generator::empty;
 use monomial::Monomial;
 use monomial::order::Ranking;
-use multiplication::coordinates::Coordinates;
 use multiplication::coordinates::Tables;
 use reduction::irreducible::Irreducibles;
 use reduction::leads::Leads;
@@ -59,9 +59,7 @@ pub fn enumerate(
 {
     let cells = t.cells;
     let mut rows = Rows::none();
-    let mut images = Images {
-        rows: [Coordinates::zero(); MAX_STANDARD],
-    };
+    let mut images: [u16; MAX_IMAGES] = [0; MAX_IMAGES];
     let mut standard = no_monomials();
     let mut leads = Leads::none();
     let mut generators = [empty(); MAX_LINES];
@@ -71,20 +69,18 @@ pub fn enumerate(
     };
     while m.found {
         let v = m.monomial;
-        let w = image_of(&cells, v, images, standard, l, reciprocals.p, n);
-        let a = rows.add(w, reciprocals);
-        let found = a.found;
-        rows = a.rows;
-        let Found::Pivot(_) = found else {
-            let g = line_of(v, a.combination, standard, reciprocals.p, n);
+        let w = image_of(&cells, &images, v, standard, l, reciprocals.p, n);
+        let x = rows.remainder(w, reciprocals.p);
+        let Found::Pivot(pivot) = x.found() else {
+            let g = line_of(v, x.dependence(reciprocals.p), standard, reciprocals.p, n);
             let k = leads.count;
             generators[k] = g;
             leads = leads.push(v);
             m = next(leads, v, ranking, n);
             continue;
         };
-        let k = standard.count;
-        images.rows[k] = w;
+        rows = rows.insert(x.scaled(pivot, reciprocals), reciprocals.p);
+        put_image(&mut images, standard.count, w);
         standard = pushed(standard, v);
         m = next(leads, v, ranking, n);
     }

@@ -7,7 +7,7 @@ ghost use Rattle.monomial.specs.Sizes.{«most-variables»};
 ghost use Rattle.monomial.specs.Represented.{row};
 ghost use Rattle.tabtext.specs.Sizes.{«most-standard»};
 ghost use Rattle.multiplication.specs.Rows.{«most-cells», Below, tablesOf, AllBelow};
-ghost use Rattle.fglm.specs.ImageRows.{imageAt, FirstVariable, OneRow, DivisorsFound, ImageRow};
+ghost use Rattle.fglm.specs.ImageRows.{«most-images», imageAt, ImagePut, FirstVariable, OneRow, DivisorsFound, ImageRow};
 use monomial::Monomial;
 use multiplication::coordinates::Coordinates;
 use multiplication::coordinates::apply;
@@ -15,11 +15,39 @@ use multiplication::place::over_variable;
 use multiplication::place::place_of;
 use multiplication::place::variable_divides;
 use reduction::irreducible::Irreducibles;
+use residue::Residue;
 use tabtext::sizes::MAX_STANDARD;
 
-// The rows of the standard monomials, in turn.
-pub struct Images {
-    pub rows: [Coordinates; MAX_STANDARD],
+// The coefficients of the rows of all standard monomials: coefficient k of the row of the one at place s at place s * MAX_STANDARD + k.
+pub const MAX_IMAGES: usize = MAX_STANDARD * MAX_STANDARD;
+
+// The row of the standard monomial at place s.
+fn image_at(images: &[u16], s: usize) -> Coordinates
+    requires { ⌜ (length (now images) ≡ most-images) × (s < most-standard) ⌝ }
+    ensures { λ r. ⌜ r ≡ imageAt (now (images .entry)) s ⌝ }
+{
+    let at = s * MAX_STANDARD;
+    let mut r = Coordinates::zero();
+    let mut k: usize = 0;
+    while k < MAX_STANDARD {
+        r.c[k] = Residue(images[at + k]);
+        k += 1;
+    }
+    r
+}
+
+// The row of the standard monomial at place s is stored.
+pub fn put_image(images: &mut [u16], s: usize, row: Coordinates)
+    requires { ⌜ (length (now images) ≡ most-images) × (s < most-standard) ⌝ }
+    ensures { λ _. ⌜ ImagePut (now (images .entry)) s row (now (images .exit)) ⌝ }
+{
+    let at = s * MAX_STANDARD;
+    let mut k: usize = 0;
+    while k < MAX_STANDARD {
+        let c = row.c[k];
+        images[at + k] = c.0;
+        k += 1;
+    }
 }
 
 // The first variable that divides m, or n where m is 1.
@@ -53,25 +81,25 @@ fn one_row(l: Irreducibles, n: usize) -> Coordinates
 // The row of m: that of 1, or x_i times that of a standard monomial.
 pub fn image_of(
     cells: &[u16],
+    images: &[u16],
     m: Monomial,
-    found: Images,
     standard: Irreducibles,
     l: Irreducibles,
     p: u16,
     n: usize,
 ) -> Coordinates
     requires { ⌜
-        (length (now cells) ≡ most-cells) × (n ≤ most-variables) × (l .count ≤ most-standard) × (standard .count ≤ most-standard) × (1 < p) × (p ≤ largest-modulus)
+        (length (now cells) ≡ most-cells) × (length (now images) ≡ most-images) × (n ≤ most-variables) × (l .count ≤ most-standard) × (standard .count ≤ most-standard) × (1 < p) × (p ≤ largest-modulus)
         × AllBelow p (tablesOf (now cells))
-        × ((s : ℕ) → s < standard .count → Below p (imageAt found s)) × DivisorsFound n standard (row n m)
+        × ((s : ℕ) → s < standard .count → Below p (imageAt (now images) s)) × DivisorsFound n standard (row n m)
         ⌝ }
-    ensures { λ r. ⌜ ImageRow p n m found standard (tablesOf (now (cells .entry))) l r ⌝ }
+    ensures { λ r. ⌜ ImageRow p n m (now (images .entry)) standard (tablesOf (now (cells .entry))) l r ⌝ }
 {
     let i = first_variable(m, n);
     if n <= i {
         return one_row(l, n);
     }
     let b = over_variable(m, i, n);
-    let w = found.rows[place_of(standard, b, n)];
+    let w = image_at(images, place_of(standard, b, n));
     apply(cells, i, w, l.count, p)
 }

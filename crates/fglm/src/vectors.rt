@@ -1,38 +1,19 @@
-// Vectors of MAX_STANDARD residues. No turn of a loop divides: a product and a shift give the quotient by p, or one less.
+// Vectors of MAX_STANDARD residues. No turn of a loop divides.
 ghost use mathlib.Core.Path.{_≡_};
-ghost use Prim.Native.Nat.{_<_, _≤_, _/_, _%_};
+ghost use Prim.Native.Nat.{_<_, _≤_};
 ghost use Rattle.residue.specs.Prime.{«largest-modulus»};
 ghost use Rattle.multiplication.specs.Rows.{Below};
-ghost use Rattle.fglm.specs.Vectors.{word, Represents, subtracted, multiplied, unitVector, FirstPlace};
+ghost use Rattle.fglm.specs.Vectors.{Represents, subtracted, multiplied, unitVector, FirstPlace};
 use multiplication::coordinates::Coordinates;
 use residue::Residue;
+use residue::word::remainder;
+use residue::word::word_over;
 use tabtext::sizes::MAX_STANDARD;
 
 // A pivot: the first place that is not zero. Of a vector that is zero there is none: it depends on those before it.
 pub enum Found {
     Pivot(usize),
     Dependent,
-}
-
-// One more than the largest u16, which the definitions have as word.
-const WORD: u32 = 65536;
-
-// The quotient of the word by p.
-fn word_over(p: u16) -> u16
-    requires { ⌜ 1 < p ⌝ }
-    ensures { λ r. ⌜ r ≡ word / p ⌝ }
-{
-    (WORD / (p as u32)) as u16
-}
-
-// x modulo p. With the quotient of the word by p, the quotient of x is x · over / word, or one more.
-fn remainder(x: u16, over: u16, p: u16) -> Residue
-    requires { ⌜ (1 < p) × (over ≡ word / p) ⌝ }
-    ensures { λ r. ⌜ (r .0 ≡ x % p) × (r .0 < p) ⌝ }
-{
-    let quotient = ((x as u32) * (over as u32) / WORD) as u16;
-    let r = x - quotient * p;
-    if r < p { Residue(r) } else { Residue(r - p) }
 }
 
 // a - c·b, as a + (p - c)·b

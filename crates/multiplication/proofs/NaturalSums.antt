@@ -1,7 +1,6 @@
 -- Sums of products of numbers over the numbers below d, and their residues.
 --   total d v w      Σ v(k)·w(k) over k < d
---   total-bound      its size, for v and w below a modulus
---   plus-zero-times  nothing is added for a product of 0
+--   total-more, total-none      its remainder, one product more, and one of 0
 --   residue-same     residues that are equal as numbers are equal
 --   residue-zero, residue-one   the residues of 0 and 1
 --   residue-total    the residue of such a sum is the sum of the residues' products
@@ -9,14 +8,13 @@
 --   residue-injective   numbers below p with one residue are equal
 use mathlib.Core.Path.{_≡_, sym, _∙_, ap, ap₂}
 use mathlib.Core.HLevel.{Σ-prop-path}
-use Prim.Native.Nat.{ℕ, zero, suc, _+_, _*_, _%_, _≤_, _<_}
-use native.Mathlib.Nat.{add-mod, mod-eq-of-lt, mod-mod}
+use Prim.Native.Nat.{ℕ, zero, suc, _+_, _*_, _%_, _<_}
+use native.Mathlib.Nat.{add-comm, add-mod, mod-add-mod, mod-eq-of-lt, mod-mod}
+use native.Mathlib.Numerals.{add-one}
 use native.Mathlib.Bridge.{le-prop}
 use native.Mathlib.Omega.{arith}
-use Rattle.residue.specs.Prime.{largest-modulus}
 use Rattle.residue.specs.Modular.{sum, product}
 use Rattle.residue.specs.Field.{ZMod, modulo}
-use Rattle.residue.proofs.Bounds.{product-bound}
 use Rattle.residue.proofs.Remainders.{mod-mul, mul-mod}
 use Rattle.groebner.proofs.DotProducts.{dot}
 use Rattle.reduction.specs.Generators.{residue}
@@ -26,13 +24,13 @@ unfoldable pub total : ℕ → (ℕ → ℕ) → (ℕ → ℕ) → ℕ
 total zero v w = 0
 total (suc d) v w = v d * w d + total d v w
 
-pub plus-zero-times : (a c b : ℕ) → c ≡ 0 → a + c * b ≡ a
-plus-zero-times a c b e = rw e (omega arith)
-
-pub total-bound : (p d : ℕ) (v w : ℕ → ℕ) → p ≤ largest-modulus → ((k : ℕ) → v k < p) → ((k : ℕ) → w k < p) → total d v w ≤ d * 62500
+pub total-more : (p d : ℕ) (v w : ℕ → ℕ) → (total d v w % p + v d * w d) % p ≡ total (d + 1) v w % p
 unfolding total
-total-bound p zero v w h a b = omega arith
-total-bound p (suc d) v w h a b = omega (arith, total-bound p d v w h a b, product-bound p (v d) (w d) h (a d) (b d))
+total-more p d v w = mod-add-mod (total d v w) p (v d * w d) ∙ ap (_% p) (add-comm _ _) ∙ ap (λ n. total n v w % p) (sym (add-one d))
+
+pub total-none : (d : ℕ) (v w : ℕ → ℕ) → v d ≡ 0 → total d v w ≡ total (d + 1) v w
+unfolding total
+total-none d v w e = sym (rw e (omega arith)) ∙ ap (λ n. total n v w) (sym (add-one d))
 
 pub residue-same : {p : ℕ} {a b : ZMod p} → a .0 ≡ b .0 → a ≡ b
 residue-same e = Σ-prop-path (λ x. le-prop) e

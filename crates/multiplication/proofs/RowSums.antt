@@ -1,61 +1,58 @@
--- The loop of `apply`: sums over the rows of one variable, one row a turn, reduced once at the end.
---   Summed t i w a r    the sums a are Σ w(s)·row(i, s) over s < r
---   summed-none         before the first turn
---   summed-fits         one more product fits 32 bits
---   summed-more         a turn adds row r
---   summed-residue      the residues of the sums are the product with the rows
---   row-below           a row of the tables is below p
---   multiply-row        a product with a row of the tables
-use mathlib.Core.Path.{_≡_, refl, sym, _∙_, ap, ap₂}
-use mathlib.Core.List.{List}
+-- The loop of `apply`: sums over the rows of one variable modulo p, one row a turn.
+--   Summed p t i w a r   the coordinates a are Σ w(s)·row(i, s) over s < r
+--   summed-start         before the first turn
+--   summed-row           a turn adds row r
+--   summed-none          a turn leaves out a row with the coefficient 0
+--   summed-whole         after the last turn, cut at the number of the rows
+--   row-below            a row of the tables is below p
+--   multiply-row         a product with a row of the tables
+use mathlib.Core.Path.{_≡_, refl, sym, _∙_, ap, ap₂, subst}
 use mathlib.Core.Logic.{by-cases}
-use Prim.Native.Nat.{ℕ, _+_, _*_, _<_, _≤_}
-use native.Mathlib.Numerals.{add-one}
-use native.Mathlib.Nat.{add-comm}
+use Prim.Native.Nat.{ℕ, _+_, _*_, _%_, _<_, _≤_}
+use native.Mathlib.Nat.{zero-mod}
 use native.Mathlib.Decide.{decLt}
 use native.Mathlib.Omega.{arith}
 use lib.ListN.{getD}
-use Rattle.residue.specs.Prime.{largest-modulus}
 use Rattle.residue.specs.Field.{modulo}
-use Rattle.residue.proofs.Bounds.{product-bound}
 use Rattle.residue.proofs.ResidueField.{residue-ring}
 use Rattle.groebner.proofs.DotProducts.{dot-on}
 use Rattle.groebner.proofs.MultiplicationRows.{multiply}
 use Rattle.tabtext.specs.Sizes.{most-standard}
 use Rattle.reduction.specs.Generators.{residue}
-use Rattle.multiplication.specs.Rows.{coordinate, rowStart, cellAt, Below, AllBelow, Fits, Residues, RowOf, coordinatesOf, cellOf, Multiplied}
+use Rattle.multiplication.specs.Rows.{coordinate, rowStart, cellAt, Below, AllBelow, AddedMultiple, Cut, RowOf, coordinatesOf, cellOf, Multiplied}
 use Rattle.multiplication.specs.declared.coordinates.Coordinates.{Coordinates}
 use Rattle.multiplication.specs.declared.coordinates.Tables.{Tables}
-use Rattle.multiplication.proofs.NaturalSums.{total, total-bound, residue-total, residue-mod}
+use Rattle.multiplication.proofs.NaturalSums.{total, total-more, total-none, residue-total, residue-mod}
 
-pub record Summed (t : Tables) (i : ℕ) (w : Coordinates) (a : List ℕ) (r : ℕ) : Type 0 where
-  pub sums : (k : ℕ) → k < most-standard → getD a k 0 ≡ total r (coordinate w) (λ s. cellAt t i s k)
+pub record Summed (p : ℕ) (t : Tables) (i : ℕ) (w a : Coordinates) (r : ℕ) : Type 0 where
+  pub below : Below p a
+  pub sums : (k : ℕ) → k < most-standard → coordinate a k ≡ total r (coordinate w) (λ s. cellAt t i s k) % p
 
-pub summed-none : (t : Tables) (i : ℕ) (w : Coordinates) (a : List ℕ) → ((k : ℕ) → getD a k 0 ≡ 0) → Summed t i w a 0
-unfolding total
-summed-none t i w a z = record { sums = λ k h. z k }
-
-module _ {t : Tables} {i : ℕ} {w : Coordinates} {a : List ℕ} {r : ℕ} (summed : Summed t i w a r) where
-  pub summed-fits : {p : ℕ} → p ≤ largest-modulus → AllBelow p t → Below p w → r < most-standard → {at : ℕ} → at ≡ rowStart i r → Fits a (coordinate w r) (t .cells) at
-  summed-fits {p} m bt bw l {at} e = record {
-    product = λ k h. let b : coordinate w r * getD (t .cells) (at + k) 0 ≤ 62500 = product-bound p _ _ m (bw .below r) (bt .cell (at + k)) in omega arith;
-    sum = λ k h. omega (arith, summed .sums k h, total-bound p r (coordinate w) (λ s. cellAt t i s k) m (bw .below) (λ s. bt .cell (rowStart i s + k)));
-  }
-
-  pub summed-more : (b : List ℕ) {at : ℕ} → at ≡ rowStart i r
-      → ((k : ℕ) → k < most-standard → getD b k 0 ≡ getD a k 0 + coordinate w r * getD (t .cells) (at + k) 0) → Summed t i w b (r + 1)
+module _ {p : ℕ} {t : Tables} {i : ℕ} {w a : Coordinates} where
+  pub summed-start : 0 < p → ((k : ℕ) → coordinate a k ≡ 0) → Summed p t i w a 0
   unfolding total
-  summed-more b e q = record {
-    sums = λ k h. q k h ∙ ap₂ _+_ (summed .sums k h) (ap (λ j. coordinate w r * getD (t .cells) (j + k) 0) e) ∙ add-comm _ _ ∙ ap (λ n. total n (coordinate w) (λ s. cellAt t i s k)) (sym (add-one r));
-  }
+  summed-start o z = record { below = record { below = λ k. omega (arith, z k) }; sums = λ k h. z k ∙ sym (zero-mod p) }
 
-  pub summed-residue : {p : ℕ} {x : Coordinates} → r ≤ most-standard → Residues p a r x → Multiplied p t i w r x
-  unfolding coordinatesOf cellOf
-  summed-residue {p} u q = record {
-    below = q .below;
-    zeros = q .zeros;
-    coordinates = λ h k l. ap (residue p h) (q .front k l) ∙ residue-mod p h (getD a k 0) ∙ ap (residue p h) (summed .sums k (omega arith)) ∙ residue-total p h r _ _;
-  }
+  module _ {r : ℕ} (summed : Summed p t i w a r) where
+    pub summed-row : {b : Coordinates} {at : ℕ} → at ≡ rowStart i r → AddedMultiple p a (coordinate w r) (t .cells) at b → Summed p t i w b (r + 1)
+    summed-row e q = record {
+      below = q .below;
+      sums = λ k h. q .sums k h ∙ ap₂ (λ x j. (x + coordinate w r * getD (t .cells) (j + k) 0) % p) (summed .sums k h) e ∙ total-more p r (coordinate w) (λ s. cellAt t i s k);
+    }
+
+    pub summed-none : coordinate w r ≡ 0 → Summed p t i w a (r + 1)
+    summed-none z = record {
+      below = summed .below;
+      sums = λ k h. summed .sums k h ∙ ap (_% p) (total-none r (coordinate w) (λ s. cellAt t i s k) z);
+    }
+
+    pub summed-whole : {x : Coordinates} → 0 < p → r ≤ most-standard → Cut r a x → Multiplied p t i w r x
+    unfolding coordinatesOf cellOf
+    summed-whole o u q = record {
+      below = record { below = λ k. by-cases (decLt k r) (λ h. subst (_< p) (sym (q .front k h)) (summed .below .below k)) (λ h. omega (arith, q .zeros k (omega arith))) };
+      zeros = q .zeros;
+      coordinates = λ h k l. ap (residue p h) (q .front k l ∙ summed .sums k (omega arith)) ∙ residue-mod p h _ ∙ residue-total p h r _ _;
+    }
 
 module _ {t : Tables} {i s : ℕ} {w : Coordinates} (row : RowOf t i s w) where
   pub row-below : {p : ℕ} → 0 < p → AllBelow p t → Below p w

@@ -1,19 +1,30 @@
--- The answer of a loop that tests each number below n and stops at the first that fails.
+-- The answer of a loop that tests each number below n, and stops at the first that fails or goes on.
 --   tested-failed   a number fails, and the answer is false
 --   tested-all      no number fails, and the answer is true
+--   tested-none, tested-more, tested-whole   the answer of a loop that goes on: before the first turn, after a turn, and after the last
 --   refuted, confirmed   what a test says whose negation was asked
 --   false-not-true  a test has one answer
 use mathlib.Core.Path.{_≡_, refl, sym, _∙_}
 use mathlib.Core.Bool.{Bool, true, false, not, false≢true}
 use mathlib.Core.Logic.{_↔_}
-use Prim.Native.Nat.{ℕ, _<_, _≤_}
+use Prim.Native.Nat.{ℕ, _+_, _<_, _≤_}
 use native.Mathlib.Omega.{arith}
+use borrow.Author.Count.{below-more}
 
 pub tested-failed : {P : ℕ → Type 0} {n : ℕ} (k : ℕ) → k < n → ¬ P k → (false ≡ true) ↔ ((j : ℕ) → j < n → P j)
 tested-failed k h f = (λ z. absurd (false≢true z), λ a. absurd (f (a k h)))
 
 pub tested-all : {P : ℕ → Type 0} {n : ℕ} (k : ℕ) → n ≤ k → ((j : ℕ) → j < k → P j) → (true ≡ true) ↔ ((j : ℕ) → j < n → P j)
 tested-all k h a = (λ _ j l. a j (omega arith), λ _. refl)
+
+pub tested-none : {P : ℕ → Type 0} → (true ≡ true) ↔ ((j : ℕ) → j < 0 → P j)
+tested-none = (λ _ j l. absurd (omega arith), λ _. refl)
+
+pub tested-more : {P : ℕ → Type 0} {t : Bool} {k : ℕ} → (t ≡ true) ↔ ((j : ℕ) → j < k → P j) → P k → (t ≡ true) ↔ ((j : ℕ) → j < k + 1 → P j)
+tested-more i h = (λ e. below-more _ _ (i .0 e) h, λ a. i .1 (λ j l. a j (omega arith)))
+
+pub tested-whole : {P : ℕ → Type 0} {t : Bool} {k n : ℕ} → k ≡ n → (t ≡ true) ↔ ((j : ℕ) → j < k → P j) → (t ≡ true) ↔ ((j : ℕ) → j < n → P j)
+tested-whole e i = (λ h j l. i .0 h j (omega arith), λ a. i .1 (λ j l. a j (omega arith)))
 
 pub refuted : {Q : Type 0} (t : Bool) → (t ≡ true) ↔ Q → not t ≡ true → ¬ Q
 refuted true i e q = false≢true e

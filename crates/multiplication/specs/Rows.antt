@@ -9,13 +9,13 @@
 --   AllBelow p t           all coefficients of all rows are below p
 --   RowOf t i s w          w is the row of x_i·B_s
 --   RowPut t i s w t′      t′ has the row w for x_i·B_s, and the other rows of t
---   Fits sums c cells at   c times the coefficients from a place on can be added to the sums
---   Residues p sums d r    r has the residues of the first d sums, and zeros after them
+--   AddedMultiple p r c cells at a   a is r + c times the coefficients from a place on
+--   Cut d r a              a has the first d coefficients of r, and zeros after them
 --   coordinatesOf p h w    the coefficients as residues
 --   cellOf p h t           coefficient k of the row of x_i·B_s as a residue, a function of i, s and k
 --   Multiplied p t i w d r   r has the coordinates of x_i times what has the coordinates w
 --   CommuteAt p h t d i j s  x_i·(x_j·B_s) and x_j·(x_i·B_s) have the same coordinates
-use Prim.Native.Nat.{ℕ, _+_, _*_, _^_, _%_, _<_, _≤_}
+use Prim.Native.Nat.{ℕ, _+_, _*_, _%_, _<_, _≤_}
 use mathlib.Core.Path.{_≡_}
 use mathlib.Core.Bool.{true, false}
 use mathlib.Core.List.{List}
@@ -72,16 +72,15 @@ pub record RowPut (t : Tables) (i s : ℕ) (w : Coordinates) (t′ : Tables) : T
   pub before : (q : ℕ) → q < rowStart i s → getD (t′ .cells) q 0 ≡ getD (t .cells) q 0
   pub after : (q : ℕ) → rowStart i s + most-standard ≤ q → getD (t′ .cells) q 0 ≡ getD (t .cells) q 0
 
--- c times the coefficients from a place on can be added to the sums.
-pub record Fits (sums : List ℕ) (c : ℕ) (cells : List ℕ) (at : ℕ) : Type 0 where
-  pub product : (k : ℕ) → k < most-standard → c * getD cells (at + k) 0 < 2 ^ 16
-  pub sum : (k : ℕ) → k < most-standard → getD sums k 0 < 2 ^ 31
+-- a is r + c times the coefficients from a place on.
+pub record AddedMultiple (p : ℕ) (r : Coordinates) (c : ℕ) (cells : List ℕ) (at : ℕ) (a : Coordinates) : Type 0 where
+  pub below : Below p a
+  pub sums : (k : ℕ) → k < most-standard → coordinate a k ≡ (coordinate r k + c * getD cells (at + k) 0) % p
 
--- r has the residues of the first d sums, and zeros after them.
-pub record Residues (p : ℕ) (sums : List ℕ) (d : ℕ) (r : Coordinates) : Type 0 where
-  pub below : Below p r
-  pub front : (k : ℕ) → k < d → coordinate r k ≡ getD sums k 0 % p
-  pub zeros : (k : ℕ) → d ≤ k → coordinate r k ≡ 0
+-- a has the first d coefficients of r, and zeros after them.
+pub record Cut (d : ℕ) (r a : Coordinates) : Type 0 where
+  pub front : (k : ℕ) → k < d → coordinate a k ≡ coordinate r k
+  pub zeros : (k : ℕ) → d ≤ k → coordinate a k ≡ 0
 
 -- The coefficients as residues.
 unfoldable pub coordinatesOf : (p : ℕ) → 1 < p → Coordinates → ℕ → ZMod p

@@ -13,22 +13,21 @@ ghost use Rattle.multiplication.specs.Rows.{«most-cells», coordinate, 
 use crate::coordinates::Coordinates;
 use crate::coordinates::apply;
 use crate::coordinates::row_of;
+use tabtext::sizes::MAX_STANDARD;
 
-// Whether the first d coefficients are equal.
-fn same(a: Coordinates, b: Coordinates, d: usize) -> bool
-    requires { ⌜ d ≤ most-standard ⌝ }
-    ensures { λ r. ⌜ (r ≡ true) ↔ ((k : ℕ) → k < d → coordinate a k ≡ coordinate b k) ⌝ }
+// Whether all coefficients are equal. No turn returns, so that the turns are made side by side.
+fn same(a: Coordinates, b: Coordinates) -> bool
+    ensures { λ r. ⌜ (r ≡ true) ↔ ((k : ℕ) → k < most-standard → coordinate a k ≡ coordinate b k) ⌝ }
 {
+    let mut equal = true;
     let mut k: usize = 0;
-    while k < d {
-        let x = a.c[k];
-        let y = b.c[k];
-        if x.0 != y.0 {
-            return false;
+    while k < MAX_STANDARD {
+        if a.c[k].0 != b.c[k].0 {
+            equal = false;
         }
         k += 1;
     }
-    true
+    equal
 }
 
 // Whether x_i·(x_j·B_s) and x_j·(x_i·B_s) have the same coordinates.
@@ -41,7 +40,7 @@ fn commute_at(cells: &[u16], i: usize, j: usize, s: usize, d: usize, p: u16) -> 
 {
     let a = apply(cells, i, row_of(cells, j, s), d, p);
     let b = apply(cells, j, row_of(cells, i, s), d, p);
-    same(a, b, d)
+    same(a, b)
 }
 
 // Whether the rows of x_i and x_j commute.

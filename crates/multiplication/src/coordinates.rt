@@ -1,13 +1,16 @@
 // Coordinates in the irreducible monomials, the rows of the products x_i·B_s, and what these rows make of coordinates.
 ghost use mathlib.Core.Path.{_≡_};
-ghost use Prim.Native.Nat.{ℕ, _+_, _*_, _%_, _<_, _≤_};
-ghost use lib.ListN.{length, getD};
+ghost use Prim.Native.Nat.{ℕ, _+_, _-_, _/_, _<_, _≤_};
+ghost use lib.ListN.{length};
 ghost use Rattle.residue.specs.Prime.{«largest-modulus»};
+ghost use Rattle.residue.specs.Word.{word};
 ghost use Rattle.monomial.specs.Sizes.{«most-variables»};
 ghost use Rattle.tabtext.specs.Sizes.{«most-standard»};
-ghost use Rattle.multiplication.specs.Rows.{«most-cells», coordinate, Below, rowStart, tablesOf, AllBelow, indicator, RowOf, RowPut, Fits, Residues, Multiplied};
+ghost use Rattle.multiplication.specs.Rows.{«most-cells», coordinate, Below, rowStart, tablesOf, AllBelow, indicator, RowOf, RowPut, AddedMultiple, Cut, Multiplied};
 use monomial::MAX_VARIABLES;
 use residue::Residue;
+use residue::word::remainder;
+use residue::word::word_over;
 use tabtext::sizes::MAX_STANDARD;
 
 // The coefficients of all rows: one row for each variable and each irreducible monomial.
@@ -88,48 +91,36 @@ pub fn put_row(cells: &mut [u16], i: usize, s: usize, row: Coordinates)
     }
 }
 
-// c times the coefficients from a place on is added to sums; nothing is done for c = 0.
-fn add_multiple(sums: &mut [u32], c: u16, cells: &[u16], at: usize)
-    requires { ⌜ (length (now sums) ≡ most-standard) × (at + most-standard ≤ length (now cells)) × Fits (now sums) c (now cells) at ⌝ }
-    ensures { λ _. ⌜ ((k : ℕ) → k < most-standard → getD (now (sums .exit)) k 0 ≡ getD (now (sums .entry)) k 0 + c * getD (now (cells .entry)) (at + k) 0) ⌝ }
+// r + c times the coefficients from a place on, for the quotient `over` of the largest u16 by p.
+fn add_multiple(mut r: Coordinates, c: u16, cells: &[u16], at: usize, over: u16, p: u16) -> Coordinates
+    requires { ⌜
+        (at + most-standard ≤ length (now cells)) × (0 < p) × (p ≤ largest-modulus) × (over ≡ (word - 1) / p)
+        × (c < p) × Below p r × AllBelow p (tablesOf (now cells))
+        ⌝ }
+    ensures { λ a. ⌜ AddedMultiple p r c (now (cells .entry)) at a ⌝ }
 {
-    if c == 0 {
-        return;
-    }
     let mut k: usize = 0;
     while k < MAX_STANDARD {
-        sums[k] = sums[k] + (c * cells[at + k]) as u32;
-        k += 1;
-    }
-}
-
-// The residue of a number, with no division for one that is below p.
-fn reduced(x: u32, p: u16) -> Residue
-    requires { ⌜ 0 < p ⌝ }
-    ensures { λ r. ⌜ (r .0 ≡ x % p) × (r .0 < p) ⌝ }
-{
-    if x < p as u32 {
-        Residue(x as u16)
-    } else {
-        Residue::of(x, p)
-    }
-}
-
-// The residues of the first d sums, and zeros after them.
-fn residues(sums: &[u32], d: usize, p: u16) -> Coordinates
-    requires { ⌜ (length (now sums) ≡ most-standard) × (d ≤ most-standard) × (0 < p) ⌝ }
-    ensures { λ r. ⌜ Residues p (now (sums .entry)) d r ⌝ }
-{
-    let mut r = Coordinates::zero();
-    let mut k: usize = 0;
-    while k < d {
-        r.c[k] = reduced(sums[k], p);
+        r.c[k] = remainder(r.c[k].0 + c * cells[at + k], over, p);
         k += 1;
     }
     r
 }
 
-// The coordinates of x_i times what has the coordinates w: Σ w(r)·row(i, r) over r < d, reduced once.
+// The first d coefficients, and zeros after them.
+fn cut(mut r: Coordinates, d: usize) -> Coordinates
+    requires { ⌜ d ≤ most-standard ⌝ }
+    ensures { λ a. ⌜ Cut d r a ⌝ }
+{
+    let mut k = d;
+    while k < MAX_STANDARD {
+        r.c[k] = Residue::ZERO;
+        k += 1;
+    }
+    r
+}
+
+// The coordinates of x_i times what has the coordinates w: Σ w(r)·row(i, r) over r < d.
 pub fn apply(cells: &[u16], i: usize, w: Coordinates, d: usize, p: u16) -> Coordinates
     requires { ⌜
         (length (now cells) ≡ most-cells) × (i < most-variables) × (d ≤ most-standard) × (0 < p) × (p ≤ largest-modulus)
@@ -137,12 +128,15 @@ pub fn apply(cells: &[u16], i: usize, w: Coordinates, d: usize, p: u16) -> Coord
         ⌝ }
     ensures { λ r. ⌜ Multiplied p (tablesOf (now (cells .entry))) i w d r ⌝ }
 {
-    let mut sums: [u32; MAX_STANDARD] = [0; MAX_STANDARD];
+    let over = word_over(p);
+    let mut sum = Coordinates::zero();
     let mut r: usize = 0;
     while r < d {
         let c = w.c[r];
-        add_multiple(&mut sums, c.0, cells, row_start(i, r));
+        if c.0 != 0 {
+            sum = add_multiple(sum, c.0, cells, row_start(i, r), over, p);
+        }
         r += 1;
     }
-    residues(&sums, d, p)
+    cut(sum, d)
 }

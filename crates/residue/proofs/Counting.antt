@@ -1,17 +1,18 @@
--- The loop of `counted`: b counts up from 1, with the product m of a and b beside it, until m is 1.
+-- The loop of `counted`: b counts up from a, with the product m of a and b beside it, until m is 1.
 --   Counting p a b m   b is at most the reciprocal of a, and m is the product of a and b
---   counting-start     it holds at b = 1
+--   counting-start     it holds at b = a if no reciprocal is below a
+--   reciprocal-positive   zero is no reciprocal
 --   counting-below     m is a residue
 --   counting-turn      it holds at b + 1 if m is not 1
 --   counting-stop      if m is 1, b is the reciprocal of a
-use mathlib.Core.Path.{_≡_, _∙_, sym, ap}
-use mathlib.Core.Logic.{⊎-elim}
+use mathlib.Core.Path.{_≡_, refl, _∙_, sym, ap}
+use mathlib.Core.Logic.{⊎-elim, by-cases}
 use Prim.Native.Nat.{ℕ, zero, suc, _+_, _*_, _%_, _≤_, _<_}
 use native.Mathlib.Nat.{eq-or-lt-of-le, mod-add-mod, mod-lt, mul-zero, zero-mod}
+use native.Mathlib.Decide.{decLt}
 use native.Mathlib.Omega.{arith}
 use Rattle.residue.specs.Prime.{Prime}
 use Rattle.residue.specs.Modular.{sum, product}
-use Rattle.residue.proofs.ModularLaws.{product-one}
 use Rattle.residue.proofs.Inverses.{Reciprocal, reciprocal-exists}
 
 pub record Counting (p a b m : ℕ) : Type 0 where
@@ -20,18 +21,17 @@ pub record Counting (p a b m : ℕ) : Type 0 where
   pub within : b ≤ target
   pub multiple : m ≡ product p a b
 
--- Zero is no reciprocal.
-reciprocal-positive : (p a b : ℕ) → Reciprocal p a b → 0 < b
+pub reciprocal-positive : (p a b : ℕ) → Reciprocal p a b → 0 < b
 unfolding product
 reciprocal-positive p a zero s =
     let e : _≡_ {A = ℕ} 0 1 = sym (zero-mod p) ∙ ap (_% p) (sym (mul-zero a)) ∙ s .inverse in
     absurd (omega arith)
 reciprocal-positive p a (suc b) s = omega arith
 
-pub counting-start : (p a : ℕ) → Prime p → 0 < a → a < p → Counting p a 1 a
-counting-start p a prime h k =
+pub counting-start : (p a : ℕ) → Prime p → 0 < a → a < p → ((b : ℕ) → b < a → ¬ (product p a b ≡ 1)) → Counting p a a (product p a a)
+counting-start p a prime h k n =
     let (b, s) = reciprocal-exists p prime a h k in
-    record { target = b; reciprocal = s; within = reciprocal-positive p a b s; multiple = sym (product-one p a k) }
+    record { target = b; reciprocal = s; within = by-cases (decLt b a) (λ l. absurd (n b l (s .inverse))) (λ l. omega arith); multiple = refl }
 
 module _ (p a b m : ℕ) (c : Counting p a b m) where
   pub counting-below : m < p

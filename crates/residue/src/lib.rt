@@ -3,6 +3,7 @@
 //   Residue       a residue, a type of its own so that an exponent cannot pass as one
 //   prime         the test of a modulus
 //   reciprocals   the table of reciprocals
+//   word          remainders with no division
 ghost use mathlib.Core.Path.{_≡_};
 ghost use Prim.Native.Nat.{_<_, _≤_, _%_};
 ghost use lib.Dec.{eqb};
@@ -11,6 +12,7 @@ ghost use Rattle.residue.specs.Modular.{sum, difference, negation, produ
 
 pub mod prime;
 pub mod reciprocals;
+pub mod word;
 
 pub struct Residue(pub u16);
 

@@ -1,5 +1,5 @@
 -- `enumerate` meets its contract. The loop's invariant: the state stands for lines and standard monomials of the theory, and m is the next to visit.
-use Prim.Native.Nat.{_+_, _*_, _-_}
+use Prim.Native.Nat.{ℕ, _+_, _*_, _-_, _<_}
 use mathlib.Core.Path.{_≡_, refl, sym, subst}
 use mathlib.Core.Bool.{true}
 use mathlib.Core.List.{List}
@@ -14,11 +14,13 @@ use Rattle.reduction.proofs.ArrayRows.{rows-length}
 use Rattle.reduction.proofs.Elements.{length-mapped}
 use Rattle.multiplication.specs.Rows.{most-cells, tablesOf}
 use Rattle.multiplication.specs.Listed.{listed}
+use Rattle.fglm.specs.Vectors.{Whole, FirstPlace}
+use Rattle.fglm.specs.ImageRows.{most-images, ImagePut}
 use Rattle.fglm.specs.Enumerable.{Convertible}
 use Rattle.fglm.specs.declared.elimination.Rows.{Rows}
-use Rattle.fglm.specs.declared.image.Images.{Images}
-use Rattle.fglm.proofs.VectorEntries.{Whole}
-use Rattle.fglm.proofs.EnumerationLoop.{Enumerating, VisitedOnce, enumerating-start, enumerating-stop, standard-few, next-found, next-exponents, next-few, next-lines, visit-room, standard-room, after-standard, after-line, onward}
+use Rattle.fglm.specs.declared.vectors.Found.the-variants.{Pivot, Dependent}
+use Rattle.fglm.proofs.Adding.{row-scaled}
+use Rattle.fglm.proofs.EnumerationLoop.{Enumerating, VisitedOnce, enumerating-start, enumerating-stop, standard-few, next-found, next-exponents, next-few, next-lines, rows-room, standard-room, after-standard, after-line, onward}
 use Rattle.fglm.proofs.enumeration.enumerate.Statement.{statement}
 use Rattle.fglm.proofs.enumeration.enumerate.Tie as tie
 
@@ -38,7 +40,7 @@ cells-size : (c : tie.Start Inv-loop μ-loop) → length (c .args .t .cells) ≡
 cells-size c = search needs
 
 abbrev origin : tie.At-loop Inv-loop μ-loop → tie.Start Inv-loop μ-loop
-origin c = c .before .before .before .before .before .before .before .before
+origin c = c .before .before .before .before .before .before .before
 
 -- The monomial to visit.
 head : (c : tie.In-loop Inv-loop μ-loop) → let a = origin (c .before) .args in let x = c .before .loop in
@@ -51,27 +53,50 @@ whole : (c : tie.After-image-of Inv-loop μ-loop) → Whole (c .image-of .result
 whole c = search (c .image-of .ok, length-mapped, needs)
 
 -- What holds after the visit.
-abbrev Visited : tie.In-loop Inv-loop μ-loop → Rows → Images → Irreducibles → Leads → List Generator → Type 0
+abbrev Visited : tie.In-loop Inv-loop μ-loop → Rows → List ℕ → Irreducibles → Leads → List Generator → Type 0
 Visited i rs images standard ls gs = let a = origin (i .before) .args in let x = i .before .loop in
     VisitedOnce (a .reciprocals) (a .n) (take (a .n) (a .ranking .variables)) (a .l) (a .t) (x .inv .0) (x .inv .1) (x .leads .count + x .standard .count) rs images standard ls gs (x .m .monomial)
 
+-- The vector has a pivot.
+pivot : (c : tie.After-known-told Inv-loop μ-loop) → FirstPlace (c .before .before .before .before .remainder .result .row) (Pivot (c .before .pivot .given .0 .0))
+pivot c = subst (FirstPlace _) (c .before .pivot .given .1) (c .before .before .before .found .ensures)
+
+-- It has none.
+none : (c : tie.After-enum-told Inv-loop μ-loop) → FirstPlace (c .before .before .before .remainder .result .row) Dependent
+none c = subst (FirstPlace _) (c .enum-told .given .1) (c .before .before .found .ensures)
+
+-- The array of the images is whole.
+images-size : (c : tie.In-loop Inv-loop μ-loop) → length (c .before .loop .images) ≡ most-images
+images-size c = c .before .loop .inv .2 .kept .images-size
+
 -- A line is written.
-line : (c : tie.After-push Inv-loop μ-loop) → let d = c .before .before .before .before .before in let x = d .before .before .before .before .before .loop in
-    Visited (d .before .before .before .before) (d .add .result .rows) (x .images) (x .standard) (c .push .result) (set (x .generators) (x .leads .count) (c .before .line-of .result))
-line c = let d = c .before .before .before .before .before in
-    after-line _ _ _ _ _ _ _ (head (d .before .before .before .before)) (whole (d .before)) (d .before .image-of .ensures) (d .add .ensures) (c .before .before .enum-told2 .given .1) (c .before .line-of .ensures) (c .push .ensures) refl
+line : (c : tie.After-push Inv-loop μ-loop) → let i = c .before .before .before .before .before .before .before .before .before .before .before in let x = i .before .loop in
+    Visited i (x .rows) (x .images) (x .standard) (c .push .result) (set (x .generators) (x .leads .count) (c .before .line-of .result))
+line c =
+    let k = c .before .before .before in
+    let r = k .before .before .before in
+    after-line _ _ _ _ _ _ _ (head (r .before .before .before .before .before)) (whole (r .before)) (r .before .image-of .ensures) (r .remainder .ensures) (none k) (c .before .before .dependence .ensures) (c .before .line-of .ensures) (c .push .ensures) refl
+
+-- There is room for one row and one standard monomial more.
+room : (c : tie.After-known-told Inv-loop μ-loop) → let x = c .before .before .before .before .before .before .before .before .before .before .loop in (x .rows .used < most-standard) × (x .standard .count < most-standard)
+room c =
+    let r = c .before .before .before .before in
+    let e = head (r .before .before .before .before .before) in
+    let u = r .before .image-of .ensures in
+    let v = r .remainder .ensures in
+    (rows-room _ _ _ _ _ _ _ e (whole (r .before)) u v (pivot c), standard-room _ _ _ _ _ _ _ e (whole (r .before)) u v (pivot c))
 
 -- There is one standard monomial more.
-standard : (c : tie.After-pushed Inv-loop μ-loop) → let d = c .before .before .before .before in let x = d .before .before .before .before .before .loop in
-    Visited (d .before .before .before .before) (d .add .result .rows) (record { rows = set (x .images .rows) (x .standard .count) (d .before .image-of .result) }) (c .pushed .result) (x .leads) (x .generators)
-standard c = let d = c .before .before .before .before in
-    after-standard _ _ _ _ _ _ _ (head (d .before .before .before .before)) (whole (d .before)) (d .before .image-of .ensures) (d .add .ensures) (c .before .enum-told .given .1) refl (c .pushed .ensures)
+standard : (c : tie.After-pushed Inv-loop μ-loop) → let i = c .before .before .before .before .before .before .before .before .before .before .before .before .before .before .before in let x = i .before .loop in
+    (images : List ℕ) → ImagePut (x .images) (x .standard .count) (c .before .before .before .before .before .before .before .before .before .before .before .image-of .result) images
+    → Visited i (c .before .before .before .before .insert .result) images (c .pushed .result) (x .leads) (x .generators)
+standard c images stored =
+    let k = c .before .before .before .before .before .before in
+    let r = k .before .before .before .before in
+    after-standard _ _ _ _ _ _ _ (head (r .before .before .before .before .before)) (whole (r .before)) (r .before .image-of .ensures) (r .remainder .ensures) (pivot k) (c .before .before .before .before .before .scaled .ensures) (c .before .before .before .before .insert .ensures) stored (c .pushed .ensures)
 
 none-requires : tie.Need-none-requires Inv-loop μ-loop
 none-requires c κs = search needs
-
-zero-requires : tie.Need-zero-requires Inv-loop μ-loop
-zero-requires c κs = search needs
 
 no-monomials-requires : tie.Need-no-monomials-requires Inv-loop μ-loop
 no-monomials-requires c κs = search needs
@@ -87,85 +112,112 @@ one-requires c κs = search needs
 
 loop-holds : tie.Need-loop-holds Inv-loop μ-loop
 loop-holds c =
+    let rows = c .before .before .before .before .none in
     let standard = c .before .before .before .no-monomials in
     let leads = c .before .before .none2 in
-    let a = c .before .before .before .before .before .before .before in (
+    let a = c .before .before .before .before .before .before in (
       a .pre,
       size a,
-      enumerating-start _ _ _ _ _ (a .pre) (size a) _ _ _ _ _ _ (c .before .before .before .before .before .none .ensures) (standard .ensures) (leads .ensures) refl (search (standard .ok, length-mapped, needs)) (search (leads .ok, length-mapped, needs)) refl (c .one .ensures),
+      enumerating-start _ _ _ _ _ (a .pre) (size a) _ _ _ _ _ _ (rows .ensures) (standard .ensures) (leads .ensures) (search (rows .ok, length-mapped, needs)) (search needs) (search (standard .ok, length-mapped, needs)) (search (leads .ok, length-mapped, needs)) refl (c .one .ensures),
     )
 
 slice-aggregate-image-of : tie.Need-slice-aggregate-image-of Inv-loop μ-loop
 slice-aggregate-image-of c = sym (cells-size (origin (c .before .before .before)))
 
+slice-aggregate-image-of-2 : tie.Need-slice-aggregate-image-of-2 Inv-loop μ-loop
+slice-aggregate-image-of-2 c = sym (images-size (c .before .before .before))
+
 image-of-requires : tie.Need-image-of-requires Inv-loop μ-loop
 image-of-requires c κs =
-    let i = c .before .before in
-    let g = i .before .loop .inv .0 in
-    (cells-size (origin (i .before)), g .variables, g .few, standard-few _ _ _ _ _ _ _ (head i), g .modulus .prime .above-one, g .modulus .size, g .below, head i .kept .images-below, next-found _ _ _ _ _ _ _ (head i))
-
-add-requires : tie.Need-add-requires Inv-loop μ-loop
-add-requires c κs =
     let i = c .before .before .before in
     let g = i .before .loop .inv .0 in
-    (g .modulus, g .serves, head i .kept .sound, c .image-of .ensures .below, visit-room _ _ _ _ _ _ _ (head i) (whole c) (c .image-of .ensures))
+    (cells-size (origin (i .before)), images-size i, g .variables, g .few, standard-few _ _ _ _ _ _ _ (head i), g .modulus .prime .above-one, g .modulus .size, g .below, head i .kept .images-below, next-found _ _ _ _ _ _ _ (head i))
+
+remainder-requires : tie.Need-remainder-requires Inv-loop μ-loop
+remainder-requires c κs =
+    let i = c .before .before .before .before in
+    let g = i .before .loop .inv .0 in
+    (g .modulus .prime .above-one, g .modulus .size, head i .kept .sound, c .image-of .ensures .below)
+
+found-requires : tie.Need-found-requires Inv-loop μ-loop
+found-requires c κs = search needs
+
+enum-known-pivot : tie.Need-enum-known-pivot Inv-loop μ-loop
+enum-known-pivot c = search needs
 
 enum-told : tie.Need-enum-told Inv-loop μ-loop
 enum-told c = search needs
 
-enum-told-2 : tie.Need-enum-told-2 Inv-loop μ-loop
-enum-told-2 c = search needs
+dependence-requires : tie.Need-dependence-requires Inv-loop μ-loop
+dependence-requires c κs =
+    let r = c .before .before .before in
+    let g = r .before .before .before .before .before .before .loop .inv .0 in
+    (g .modulus .prime .above-one, g .modulus .size, r .remainder .ensures .combination-below)
 
 line-of-requires : tie.Need-line-of-requires Inv-loop μ-loop
 line-of-requires c κs =
-    let d = c .before .before .before in let i = d .before .before .before .before in
-    (i .before .loop .inv .0 .modulus .prime .above-one, standard-few _ _ _ _ _ _ _ (head i), d .add .ensures .below, head i .held, head i .kept .standard-held)
+    let i = c .before .before .before .before .before .before .before .before .before in
+    (i .before .loop .inv .0 .modulus .prime .above-one, standard-few _ _ _ _ _ _ _ (head i), c .dependence .ensures .below, head i .held, head i .kept .standard-held)
 
 mul-generators : tie.Need-mul-generators Inv-loop μ-loop
-mul-generators c = let i = c .before .before .before .before .before .before .before .before in omega (arith, next-lines _ _ _ _ _ _ _ (head i))
+mul-generators c = let i = c .before .before .before .before .before .before .before .before .before .before in omega (arith, next-lines _ _ _ _ _ _ _ (head i))
 
 array-set-from-generators : tie.Need-array-set-from-generators Inv-loop μ-loop
-array-set-from-generators c = let i = c .before .before .before .before .before .before .before .before in next-lines _ _ _ _ _ _ _ (head i)
+array-set-from-generators c = let i = c .before .before .before .before .before .before .before .before .before .before in next-lines _ _ _ _ _ _ _ (head i)
 
 push-requires : tie.Need-push-requires Inv-loop μ-loop
-push-requires c κs = let i = c .before .before .before .before .before .before .before .before in next-lines _ _ _ _ _ _ _ (head i)
+push-requires c κs = let i = c .before .before .before .before .before .before .before .before .before .before in next-lines _ _ _ _ _ _ _ (head i)
 
 next-requires : tie.Need-next-requires Inv-loop μ-loop
 next-requires c κs =
-    let i = c .before .before .before .before .before .before .before .before .before in
+    let i = c .before .before .before .before .before .before .before .before .before .before .before in
     let g = i .before .loop .inv .0 in
     (line c .kept .lines, g .variables, g .ranking, head i .held, next-exponents _ _ _ _ _ _ _ (head i))
 
 loop-less : tie.Need-loop-less Inv-loop μ-loop
-loop-less c = let i = c .before .before .before .before .before .before .before .before .before .before in
+loop-less c = let i = c .before .before .before .before .before .before .before .before .before .before .before .before in
     omega (arith, line (c .before) .count, next-few _ _ _ _ _ _ _ (head i))
 
 loop-again : tie.Need-loop-again Inv-loop μ-loop
-loop-again c = let x = c .before .before .before .before .before .before .before .before .before .before .before .loop in
+loop-again c = let x = c .before .before .before .before .before .before .before .before .before .before .before .before .before .loop in
     (x .inv .0, x .inv .1, onward _ _ _ _ _ _ _ (line (c .before)) _ _ (c .next .ensures .0) (c .next .ensures .1))
 
-mul-w : tie.Need-mul-w Inv-loop μ-loop
-mul-w c = let i = c .before .before .before .before .before .before .before in omega (arith, standard-few _ _ _ _ _ _ _ (head i))
+scaled-requires : tie.Need-scaled-requires Inv-loop μ-loop
+scaled-requires c κs =
+    let r = c .before .before .before .before in
+    let g = r .before .before .before .before .before .before .loop .inv .0 in
+    let l = r .remainder .ensures in
+    (g .modulus .prime .above-one, g .serves, pivot c .0, pivot c .1, l .row-below, l .combination-below)
 
-element-set-from-w : tie.Need-element-set-from-w Inv-loop μ-loop
-element-set-from-w c = let d = c .before .before .before in let i = d .before .before .before .before in standard-room _ _ _ _ _ _ _ (head i) (whole (d .before)) (d .before .image-of .ensures) (d .add .ensures) (c .enum-told .given .1)
+insert-requires : tie.Need-insert-requires Inv-loop μ-loop
+insert-requires c κs =
+    let k = c .before in
+    let i = k .before .before .before .before .before .before .before .before .before in
+    let g = i .before .loop .inv .0 in
+    (g .modulus .prime .above-one, g .modulus .size, head i .kept .sound, row-scaled _ _ _ _ (k .before .before .before .before .remainder .ensures) _ (pivot k) _ (c .scaled .ensures), room k .0)
+
+slice-aggregate-put-image : tie.Need-slice-aggregate-put-image Inv-loop μ-loop
+slice-aggregate-put-image c = sym (images-size (c .before .before .before .before .before .before .before .before .before .before .before .before))
+
+put-image-requires : tie.Need-put-image-requires Inv-loop μ-loop
+put-image-requires c κs = (images-size (c .before .before .before .before .before .before .before .before .before .before .before .before), room (c .before .before .before) .1)
 
 pushed-requires : tie.Need-pushed-requires Inv-loop μ-loop
-pushed-requires c κs = let d = c .before .before .before in let i = d .before .before .before .before in standard-room _ _ _ _ _ _ _ (head i) (whole (d .before)) (d .before .image-of .ensures) (d .add .ensures) (c .enum-told .given .1)
+pushed-requires c κs = room (c .before .before .before .before .before) .1
 
 next-requires-2 : tie.Need-next-requires-2 Inv-loop μ-loop
 next-requires-2 c κs =
-    let i = c .before .before .before .before .before .before .before .before in
+    let i = c .before .before .before .before .before .before .before .before .before .before .before .before .before .before .before in
     let g = i .before .loop .inv .0 in
     (head i .kept .lines, g .variables, g .ranking, head i .held, next-exponents _ _ _ _ _ _ _ (head i))
 
 loop-less-2 : tie.Need-loop-less-2 Inv-loop μ-loop
-loop-less-2 c = let i = c .before .before .before .before .before .before .before .before .before in
-    omega (arith, standard (c .before) .count, next-few _ _ _ _ _ _ _ (head i))
+loop-less-2 c = let i = c .before .before .before .before .before .before .before .before .before .before .before .before .before .before .before .before in
+    omega (arith, standard (c .before) _ (c .before .before .before .put-image .ensures) .count, next-few _ _ _ _ _ _ _ (head i))
 
 loop-again-2 : tie.Need-loop-again-2 Inv-loop μ-loop
-loop-again-2 c = let x = c .before .before .before .before .before .before .before .before .before .before .loop in
-    (x .inv .0, x .inv .1, onward _ _ _ _ _ _ _ (standard (c .before)) _ _ (c .next2 .ensures .0) (c .next2 .ensures .1))
+loop-again-2 c = let x = c .before .before .before .before .before .before .before .before .before .before .before .before .before .before .before .before .before .loop in
+    (x .inv .0, x .inv .1, onward _ _ _ _ _ _ _ (standard (c .before) _ (c .before .before .before .put-image .ensures)) _ _ (c .next2 .ensures .0) (c .next2 .ensures .1))
 
 returns : tie.Need-returns Inv-loop μ-loop
 returns c = let a = c .before .before in enumerating-stop _ _ _ _ _ _ _ (c .before .loop-test .left) (a .loop .inv .2)
@@ -177,17 +229,19 @@ enumerate-spec =
     Inv-loop
     μ-loop
     none-requires
-    zero-requires
     no-monomials-requires
     none-requires-2
     empty-requires
     one-requires
     loop-holds
     slice-aggregate-image-of
+    slice-aggregate-image-of-2
     image-of-requires
-    add-requires
+    remainder-requires
+    found-requires
+    enum-known-pivot
     enum-told
-    enum-told-2
+    dependence-requires
     line-of-requires
     mul-generators
     array-set-from-generators
@@ -195,8 +249,10 @@ enumerate-spec =
     next-requires
     loop-less
     loop-again
-    mul-w
-    element-set-from-w
+    scaled-requires
+    insert-requires
+    slice-aggregate-put-image
+    put-image-requires
     pushed-requires
     next-requires-2
     loop-less-2

@@ -1,5 +1,5 @@
 -- `image_of` meets its contract.
-use mathlib.Core.Path.{_≡_, sym, _∙_, ap}
+use mathlib.Core.Path.{_≡_, sym, _∙_, ap, subst}
 use Prim.Native.Nat.{_≤_, _<_}
 use native.Mathlib.Omega.{arith}
 use borrow.Author.Needs.{needs}
@@ -9,23 +9,24 @@ use Rattle.monomial.specs.Represented.{row}
 use Rattle.groebner.proofs.Variables.{variable}
 use Rattle.tabtext.specs.Sizes.{most-standard}
 use Rattle.reduction.proofs.Elements.{length-mapped}
+use Rattle.multiplication.specs.Rows.{Below}
 use Rattle.fglm.proofs.VariableSearch.{first-none, first-some}
 use Rattle.fglm.proofs.RowImages.{divisor-place, image-one, image-product}
 use Rattle.fglm.proofs.image.image_of.Statement.{statement}
 use Rattle.fglm.proofs.image.image_of.Tie as tie
 
 full : (c : tie.Start) → c .args .standard .count ≤ length (c .args .standard .monomials)
-full c = let e : length (c .args .standard .monomials) ≡ most-standard = search (length-mapped, needs) in omega (arith, c .pre .3)
+full c = let e : length (c .args .standard .monomials) ≡ most-standard = search (length-mapped, needs) in omega (arith, c .pre .4)
 
 -- m is the variable times the quotient.
-split : (c : tie.After-over-variable) → let d = c .before .before in let a = d .before .before .args in
+split : (c : tie.After-over-variable) → let d = c .before .before in let a = d .before .before .before .args in
     row (a .n) (a .m) ≡ product (a .n) (variable (a .n) (d .first-variable .result)) (row (a .n) (c .over-variable .result))
-split c = let d = c .before .before in let n = d .before .before .args .n in
+split c = let d = c .before .before in let n = d .before .before .before .args .n in
     first-some (d .first-variable .ensures) (omega (arith, c .before .if1 .left)) ∙ ap (product n (variable n (d .first-variable .result))) (sym (c .over-variable .ensures))
 
-inside : (c : tie.After-place-of) → c .place-of .result < c .before .before .before .before .before .args .standard .count
-inside c = let s = c .before .before .before .before .before in
-    divisor-place _ (s .args .standard) (full s) _ _ _ (omega (arith, c .before .before .if1 .left)) (split (c .before)) (s .pre .8) _ (c .place-of .ensures)
+inside : (c : tie.After-place-of) → c .place-of .result < c .before .before .before .before .before .before .args .standard .count
+inside c = let s = c .before .before .before .before .before .before in
+    divisor-place _ (s .args .standard) (full s) _ _ _ (omega (arith, c .before .before .if1 .left)) (split (c .before)) (s .pre .9) _ (c .place-of .ensures)
 
 first-variable-requires : tie.Need-first-variable-requires
 first-variable-requires c κs = search needs
@@ -34,34 +35,35 @@ one-row-requires : tie.Need-one-row-requires
 one-row-requires c κs = search needs
 
 returns : tie.Need-returns
-returns c = let d = c .before .before in image-one (d .before .before .pre .4) (first-none (d .first-variable .ensures) (c .before .if1 .taken)) (c .one-row .ensures)
+returns c = let d = c .before .before in image-one (d .before .before .before .pre .5) (first-none (d .first-variable .ensures) (c .before .if1 .taken)) (c .one-row .ensures)
 
 over-variable-requires : tie.Need-over-variable-requires
-over-variable-requires c κs = let i : c .before .first-variable .result < c .before .before .before .args .n = omega (arith, c .if1 .left) in
-    (c .before .before .before .pre .1, i, c .before .first-variable .ensures .found i)
+over-variable-requires c κs = let s = c .before .before .before .before in let i : c .before .first-variable .result < s .args .n = omega (arith, c .if1 .left) in
+    (s .pre .2, i, c .before .first-variable .ensures .found i)
 
 place-of-requires : tie.Need-place-of-requires
 place-of-requires c κs = search needs
 
-mul-w : tie.Need-mul-w
-mul-w c = search needs
+image-at-requires : tie.Need-image-at-requires
+image-at-requires c κs = let s = c .before .before .before .before .before .before in (s .pre .1, omega (arith, inside c, s .pre .4))
 
-element-copy-out-w : tie.Need-element-copy-out-w
-element-copy-out-w c = omega (arith, inside c, c .before .before .before .before .before .pre .3)
+-- The row that was found.
+image-below : (c : tie.After-image-at) → Below (c .before .before .before .before .before .before .before .args .p) (c .image-at .result)
+image-below c = let s = c .before .before .before .before .before .before .before in subst (Below (s .args .p)) (sym (c .image-at .ensures)) (s .pre .8 _ (inside (c .before)))
 
 apply-requires : tie.Need-apply-requires
 apply-requires c κs =
-    let s = c .before .before .before .before .before .before in
-    let (e, n, l, k, h, m, t, w, _) = s .pre in
-    (e, omega (arith, c .before .before .before .if1 .left), l, omega arith, m, t, w _ (inside (c .before)))
+    let (e, _, n, l, k, h, m, t, _, _) = c .before .before .before .before .before .before .before .pre in
+    (e, omega (arith, c .before .before .before .if1 .left), l, omega arith, m, t, image-below c)
 
 returns-2 : tie.Need-returns-2
 returns-2 c =
     let e = c .before .before in
     let d = e .before .before .before in
-    let n = d .before .before .args .n in
+    let a = d .before .before .before .args in
     image-product _ _ (omega (arith, e .before .before .if1 .left)) (inside e)
-    (split (e .before) ∙ ap (product n (variable n (d .first-variable .result))) (sym (e .place-of .ensures .found (inside e)))) (c .apply .ensures)
+    (split (e .before) ∙ ap (product (a .n) (variable (a .n) (d .first-variable .result))) (sym (e .place-of .ensures .found (inside e))))
+    (c .before .image-at .ensures) (c .apply .ensures)
 
 pub image-of-spec : {M : Type 1} → statement M
 image-of-spec =
@@ -72,7 +74,6 @@ image-of-spec =
     returns
     over-variable-requires
     place-of-requires
-    mul-w
-    element-copy-out-w
+    image-at-requires
     apply-requires
     returns-2)

@@ -6,7 +6,7 @@ use borrow.Author.Needs.{needs}
 use lib.ListN.{length}
 use Rattle.tabtext.specs.Sizes.{most-standard, most-terms}
 use Rattle.reduction.proofs.Elements.{length-mapped}
-use Rattle.fglm.proofs.VectorEntries.{Whole}
+use Rattle.fglm.specs.Vectors.{Whole}
 use Rattle.fglm.proofs.LineTerms.{Arrays, arrays-stored, less-stored, first-term, Writing, writing-start, writing-turn, writing-stop}
 use Rattle.fglm.proofs.line.line_of.Statement.{statement}
 use Rattle.fglm.proofs.line.line_of.Tie as tie

@@ -6,7 +6,8 @@ use Rattle.residue.proofs.Bounds.{product-bound}
 use Rattle.tabtext.specs.Sizes.{most-standard}
 use Rattle.multiplication.specs.Rows.{coordinate}
 use Rattle.reduction.proofs.Elements.{length-mapped}
-use Rattle.fglm.proofs.VectorEntries.{Whole, multiplied-entries}
+use Rattle.fglm.specs.Vectors.{Whole}
+use Rattle.fglm.proofs.VectorEntries.{multiplied-entries}
 use Rattle.fglm.proofs.FilledVectors.{FilledVector, filled-start, filled-turn, filled-below, filled-entries}
 use Rattle.fglm.proofs.vectors.multiply.Statement.{statement}
 use Rattle.fglm.proofs.vectors.multiply.Tie as tie
@@ -21,7 +22,7 @@ size : (c : tie.Start Inv-loop μ-loop) → Whole (c .args .t2)
 size c = search (length-mapped, needs)
 
 word-over-requires : tie.Need-word-over-requires Inv-loop μ-loop
-word-over-requires c κs = c .pre .0
+word-over-requires c κs = omega (arith, c .pre .0)
 
 loop-holds : tie.Need-loop-holds Inv-loop μ-loop
 loop-holds c = filled-start (size (c .before))
@@ -39,7 +40,7 @@ mul-remainder-2 c =
     omega (arith, product-bound (a .args .p) (a .args .c .0) (coordinate (a .args .t2) (s .loop .k)) (a .pre .1) (a .pre .2) (a .pre .3 .below (s .loop .k)))
 
 remainder-requires : tie.Need-remainder-requires Inv-loop μ-loop
-remainder-requires c κs = let s = c .before .before .before in (s .before .pre .0, s .word-over .ensures)
+remainder-requires c κs = let s = c .before .before .before in (omega (arith, s .before .pre .0), s .word-over .ensures)
 
 mul-t16 : tie.Need-mul-t16 Inv-loop μ-loop
 mul-t16 c = search needs

@@ -2,12 +2,13 @@
 use Prim.Native.Nat.{_+_, _*_, _-_, _%_, _<_}
 use native.Mathlib.Omega.{arith}
 use borrow.Author.Needs.{needs}
+use Rattle.residue.specs.Word.{word}
+use Rattle.residue.proofs.WordQuotients.{less-fits}
 use Rattle.tabtext.specs.Sizes.{most-standard}
 use Rattle.multiplication.specs.Rows.{coordinate}
 use Rattle.reduction.proofs.Elements.{length-mapped}
-use Rattle.fglm.specs.Vectors.{word}
-use Rattle.fglm.proofs.WordQuotients.{less-fits}
-use Rattle.fglm.proofs.VectorEntries.{Whole, subtracted-entries}
+use Rattle.fglm.specs.Vectors.{Whole}
+use Rattle.fglm.proofs.VectorEntries.{subtracted-entries}
 use Rattle.fglm.proofs.FilledVectors.{FilledVector, filled-start, filled-turn, filled-below, filled-entries}
 use Rattle.fglm.proofs.vectors.subtract_multiple.Statement.{statement}
 use Rattle.fglm.proofs.vectors.subtract_multiple.Tie as tie
@@ -22,7 +23,7 @@ size : (c : tie.Start Inv-loop μ-loop) → Whole (c .args .t1) × Whole (c .arg
 size c = (search (length-mapped, needs), search (length-mapped, needs))
 
 word-over-requires : tie.Need-word-over-requires Inv-loop μ-loop
-word-over-requires c κs = c .pre .0
+word-over-requires c κs = omega (arith, c .pre .0)
 
 sub-minus-c : tie.Need-sub-minus-c Inv-loop μ-loop
 sub-minus-c c = search needs
@@ -56,7 +57,7 @@ add-remainder : tie.Need-add-remainder Inv-loop μ-loop
 add-remainder c = omega (arith, fits c)
 
 remainder-requires : tie.Need-remainder-requires Inv-loop μ-loop
-remainder-requires c κs = let s = c .before .before .before in (s .before .pre .0, s .word-over .ensures)
+remainder-requires c κs = let s = c .before .before .before in (omega (arith, s .before .pre .0), s .word-over .ensures)
 
 mul-t24 : tie.Need-mul-t24 Inv-loop μ-loop
 mul-t24 c = search needs

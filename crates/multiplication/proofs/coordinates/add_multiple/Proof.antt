@@ -1,64 +1,74 @@
--- `add_multiple` meets its contract. The loop's invariant: the first k sums are those of the result, the others those of the argument.
-use Prim.Native.Nat.{_+_, _*_, _-_, _≤_}
-use mathlib.Core.Path.{_≡_, sym, ap}
-use lib.ListN.{getD}
+-- `add_multiple` meets its contract. The loop's invariant: the first k sums are stored, the other coefficients are those of the argument.
+use Prim.Native.Nat.{_+_, _*_, _-_, _%_, _<_, _≤_}
+use mathlib.Core.Path.{_≡_, sym, ap, _∙_, subst}
+use mathlib.Core.Logic.{by-cases}
+use native.Mathlib.Decide.{decLt}
+use lib.ListN.{length, getD}
+use Rattle.residue.specs.declared.Residue.{Residue}
+use Rattle.residue.specs.Word.{word}
+use Rattle.residue.proofs.Bounds.{product-bound}
 use Rattle.tabtext.specs.Sizes.{most-standard}
-use Rattle.multiplication.proofs.NaturalSums.{plus-zero-times}
+use Rattle.multiplication.specs.Rows.{coordinate}
 use Rattle.multiplication.proofs.Storing.{Stored, stored-none, stored-more}
+use Rattle.reduction.proofs.Elements.{length-mapped}
 use native.Mathlib.Omega.{arith}
 use borrow.Author.Needs.{needs}
 use Rattle.multiplication.proofs.coordinates.add_multiple.Statement.{statement}
 use Rattle.multiplication.proofs.coordinates.add_multiple.Tie as tie
 
 abbrev Inv-loop : tie.InvT-loop
-Inv-loop sums₀ c cells at k₀ sums k = (k ≤ most-standard) × Stored (λ j x. x ≡ getD sums₀ j 0 + c * getD cells (at + j) 0) 0 sums₀ sums k
+Inv-loop c cells at over p r₀ k₀ r k = (k ≤ most-standard) × Stored (λ j x. (x .0 ≡ (coordinate r₀ j + c * getD cells (at + j) 0) % p) × (x .0 < p)) (record { 0 = 0 }) (r₀ .c) (r .c) k
 
 abbrev μ-loop : tie.MeasureT-loop
-μ-loop sums₀ c cells at k₀ sums k = most-standard - k
+μ-loop c cells at over p r₀ k₀ r k = most-standard - k
 
-returns : tie.Need-returns Inv-loop μ-loop
-returns c = λ k h. sym (plus-zero-times _ _ _ (c .if1 .taken))
+size : (c : tie.Start Inv-loop μ-loop) → length (c .args .t1 .c) ≡ most-standard
+size c = search (length-mapped, needs)
 
 loop-holds : tie.Need-loop-holds Inv-loop μ-loop
 loop-holds c = (omega arith, stored-none _ _ _)
 
-mul-sums : tie.Need-mul-sums Inv-loop μ-loop
-mul-sums c = search needs
+mul-remainder : tie.Need-mul-remainder Inv-loop μ-loop
+mul-remainder c = search needs
 
-slice-read-sums : tie.Need-slice-read-sums Inv-loop μ-loop
-slice-read-sums c = search needs
+element-copy-out-remainder : tie.Need-element-copy-out-remainder Inv-loop μ-loop
+element-copy-out-remainder c = search needs
 
-add-sums : tie.Need-add-sums Inv-loop μ-loop
-add-sums c = search needs
+add-remainder : tie.Need-add-remainder Inv-loop μ-loop
+add-remainder c = search needs
 
-mul-sums-2 : tie.Need-mul-sums-2 Inv-loop μ-loop
-mul-sums-2 c = search needs
+mul-remainder-2 : tie.Need-mul-remainder-2 Inv-loop μ-loop
+mul-remainder-2 c = search needs
 
-shared-slice-read-sums : tie.Need-shared-slice-read-sums Inv-loop μ-loop
-shared-slice-read-sums c = search needs
+shared-slice-read-remainder : tie.Need-shared-slice-read-remainder Inv-loop μ-loop
+shared-slice-read-remainder c = search needs
 
-mul-sums-3 : tie.Need-mul-sums-3 Inv-loop μ-loop
-mul-sums-3 c =
-    let s = c .before .before .before in
-    omega (arith, s .before .before .pre .2 .product (s .loop .k) (omega arith))
+-- Coefficient k is still that of the argument.
+same : (c : tie.In-loop Inv-loop μ-loop) → coordinate (c .before .loop .r) (c .before .loop .k) ≡ coordinate (c .before .before .before .args .t1) (c .before .loop .k)
+same c = ap (λ (x : Residue). x .0) (c .before .loop .inv .1 .kept (c .before .loop .k) (omega arith))
 
-cast-sums : tie.Need-cast-sums Inv-loop μ-loop
-cast-sums c =
-    let s = c .before .before .before in
-    omega (arith, s .before .before .pre .2 .product (s .loop .k) (omega arith))
+-- The number whose remainder is taken fits.
+fits : (c : tie.In-loop Inv-loop μ-loop) → let s = c .before in let a = s .before .before .args in coordinate (s .loop .r) (s .loop .k) + a .c * getD (a .cells .now) (a .at + s .loop .k) 0 < word
+fits c =
+    let s = c .before in
+    let a = s .before .before .args in
+    let (_, _, m, _, l, b, t) = s .before .before .pre in
+    omega (arith, same c, b .below (s .loop .k), product-bound (a .p) (a .c) (getD (a .cells .now) (a .at + s .loop .k) 0) m l (t .cell (a .at + s .loop .k)))
 
-add-sums-2 : tie.Need-add-sums-2 Inv-loop μ-loop
-add-sums-2 c =
-    let s = c .before .before .before in
-    let f = s .before .before .pre .2 in
-    let k = s .loop .k in
-    omega (arith, f .product k (omega arith), f .sum k (omega arith), s .loop .inv .1 .kept k (omega arith))
+mul-remainder-3 : tie.Need-mul-remainder-3 Inv-loop μ-loop
+mul-remainder-3 c = omega (arith, fits (c .before))
 
-mul-sums-4 : tie.Need-mul-sums-4 Inv-loop μ-loop
-mul-sums-4 c = search needs
+add-remainder-2 : tie.Need-add-remainder-2 Inv-loop μ-loop
+add-remainder-2 c = omega (arith, fits (c .before))
 
-slice-write-sums : tie.Need-slice-write-sums Inv-loop μ-loop
-slice-write-sums c = search needs
+remainder-requires : tie.Need-remainder-requires Inv-loop μ-loop
+remainder-requires c κs = let (_, o, _, e, _, _, _) = c .before .before .before .before .pre in (o, e)
+
+mul-t21 : tie.Need-mul-t21 Inv-loop μ-loop
+mul-t21 c = search needs
+
+element-set-from-r : tie.Need-element-set-from-r Inv-loop μ-loop
+element-set-from-r c = search needs
 
 add-k : tie.Need-add-k Inv-loop μ-loop
 add-k c = search needs
@@ -68,17 +78,21 @@ loop-less c = search needs
 
 loop-again : tie.Need-loop-again Inv-loop μ-loop
 loop-again c =
-    let s = c .before .before .before in
-    let k = s .loop .k in
+    let i = c .before .before in
+    let s = i .before in
     let a = s .before .before .args in
-    let more = ap (_+ (a .c * getD (a .cells .now) (a .at + k) 0)) (s .loop .inv .1 .kept k (omega arith)) in
-    (omega arith, stored-more _ _ _ _ k _ (s .loop .inv .1) (omega (arith, s .before .before .pre .0)) more)
+    let e = ap (λ x. (x + a .c * getD (a .cells .now) (a .at + s .loop .k) 0) % a .p) (same i) in
+    (omega arith, stored-more _ _ _ _ (s .loop .k) _ (s .loop .inv .1) (omega (arith, size (s .before .before))) (c .remainder .ensures .0 ∙ e, c .remainder .ensures .1))
 
-same-length : tie.Need-same-length Inv-loop μ-loop
-same-length c = c .before .loop .inv .1 .size
-
-returns-2 : tie.Need-returns-2 Inv-loop μ-loop
-returns-2 c = λ k h. c .before .loop .inv .1 .stored k (omega arith)
+returns : tie.Need-returns Inv-loop μ-loop
+returns c =
+    let s = c .before in
+    let i = s .loop .inv .1 in
+    let (_, _, _, _, _, b, _) = s .before .before .pre in
+    record {
+      below = record { below = λ j. by-cases (decLt j (s .loop .k)) (λ h. i .stored j h .1) (λ h. subst (λ (x : Residue). x .0 < s .before .before .args .p) (sym (i .kept j (omega arith))) (b .below j)) };
+      sums = λ j h. i .stored j (omega arith) .0;
+    }
 
 pub add-multiple-spec : {M : Type 1} → statement M
 add-multiple-spec =
@@ -86,20 +100,18 @@ add-multiple-spec =
     (tie.spec
     Inv-loop
     μ-loop
-    returns
     loop-holds
-    mul-sums
-    slice-read-sums
-    add-sums
-    mul-sums-2
-    shared-slice-read-sums
-    mul-sums-3
-    cast-sums
-    add-sums-2
-    mul-sums-4
-    slice-write-sums
+    mul-remainder
+    element-copy-out-remainder
+    add-remainder
+    mul-remainder-2
+    shared-slice-read-remainder
+    mul-remainder-3
+    add-remainder-2
+    remainder-requires
+    mul-t21
+    element-set-from-r
     add-k
     loop-less
     loop-again
-    same-length
-    returns-2)
+    returns)

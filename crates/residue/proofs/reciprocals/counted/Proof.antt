@@ -11,10 +11,15 @@ Inv-loop a p b₀ multiple₀ b multiple = Counting p (a .0) b (multiple .0)
 abbrev μ-loop : tie.MeasureT-loop
 μ-loop a p b₀ multiple₀ b multiple = p - b
 
+mul-requires : tie.Need-mul-requires Inv-loop μ-loop
+mul-requires c κs =
+    let (m, _, k, _) = c .pre in
+    (k, k, m .size)
+
 loop-holds : tie.Need-loop-holds Inv-loop μ-loop
 loop-holds c =
-    let (m, h, k) = c .pre in
-    counting-start _ _ (m .prime) h k
+    let (m, h, k, n) = c .before .pre in
+    rw (c .mul .ensures .0) (counting-start _ _ (m .prime) h k n)
 
 add-b : tie.Need-add-b Inv-loop μ-loop
 add-b c = omega arith
@@ -22,7 +27,7 @@ add-b c = omega arith
 add-requires : tie.Need-add-requires Inv-loop μ-loop
 add-requires c κs =
     let d = c .before .before in
-    let (m, _, k) = d .before .pre in
+    let (m, _, k, _) = d .before .before .pre in
     (counting-below _ _ _ _ (d .loop .inv), k, m .size)
 
 loop-less : tie.Need-loop-less Inv-loop μ-loop
@@ -39,4 +44,4 @@ returns c =
 
 pub counted-spec : {M : Type 1} → statement M
 counted-spec =
-    tie.close (tie.spec Inv-loop μ-loop loop-holds add-b add-requires loop-less loop-again returns)
+    tie.close (tie.spec Inv-loop μ-loop mul-requires loop-holds add-b add-requires loop-less loop-again returns)

@@ -1,9 +1,9 @@
 -- `remainder` meets its contract: what the quotient leaves is below 2p.
 use mathlib.Core.Path.{refl}
 use native.Mathlib.Omega.{arith}
-use Rattle.fglm.proofs.WordQuotients.{product-fits, quotient-below, remainder-near, remainder-is, remainder-less}
-use Rattle.fglm.proofs.vectors.remainder.Statement.{statement}
-use Rattle.fglm.proofs.vectors.remainder.Tie as tie
+use Rattle.residue.proofs.WordQuotients.{product-fits, quotient-below, remainder-near, remainder-is, remainder-less}
+use Rattle.residue.proofs.word.remainder.Statement.{statement}
+use Rattle.residue.proofs.word.remainder.Tie as tie
 
 mul-quotient : tie.Need-mul-quotient
 mul-quotient c = omega (arith, product-fits (c .args .x) (c .args .over) (omega arith) (omega arith))

@@ -1,5 +1,5 @@
--- Remainders modulo p by a product with the quotient of the word by p.
---   over-fits           the quotient of the word by p is a number of 16 bits
+-- Remainders modulo p by a product with the quotient of the largest number of 16 bits by p.
+--   over-fits           this quotient is a number of 16 bits
 --   quotient-below      the product gives a quotient that is not too large
 --   remainder-near      what is left is below 2p
 --   remainder-is, remainder-less   x modulo p, by whether p can be taken away
@@ -7,25 +7,25 @@
 --   less-fits           a + (p - c)·b is a number of 16 bits
 use mathlib.Core.Path.{_≡_, sym, _∙_, ap, subst}
 use Prim.Native.Nat.{ℕ, _+_, _-_, _*_, _/_, _%_, _≤_, _<_}
-use native.Mathlib.Nat.{mul-le-mul, mul-le-mul-left, mul-le-mul-right, div-mul-le-self, lt-div-mul-add, div-lt-self, add-mul-mod-self-right, mod-eq-of-lt}
+use native.Mathlib.Nat.{mul-le-mul, mul-le-mul-left, mul-le-mul-right, div-mul-le-self, lt-div-mul-add, div-le-self, add-mul-mod-self-right, mod-eq-of-lt}
 use native.Mathlib.Omega.{arith}
 use Rattle.residue.specs.Prime.{largest-modulus}
 use Rattle.residue.proofs.Remainders.{mod-subtract}
-use Rattle.fglm.specs.Vectors.{word}
+use Rattle.residue.specs.Word.{word}
 
-pub over-fits : (p : ℕ) → 1 < p → word / p < word
-over-fits p h = div-lt-self {n = word} (omega arith) h
+pub over-fits : (p : ℕ) → (word - 1) / p < word
+over-fits p = omega (arith, div-le-self (word - 1) p)
 
-module _ (p x m q : ℕ) (h : 1 < p) (e : m ≡ word / p) (d : q ≡ x * m / word) where
+module _ (p x m q : ℕ) (h : 0 < p) (e : m ≡ (word - 1) / p) (d : q ≡ x * m / word) where
   pub quotient-below : q * p ≤ x
   quotient-below =
-      let a : m * p ≤ word = subst (λ z. z * p ≤ word) (sym e) (div-mul-le-self word p) in
+      let a : m * p ≤ word - 1 = subst (λ z. z * p ≤ word - 1) (sym e) (div-mul-le-self (word - 1) p) in
       let b : q * word ≤ x * m = omega arith in
       omega (arith, mul-le-mul-right p b, mul-le-mul-left x a)
 
   pub remainder-near : x < word → x - q * p < p + p
   remainder-near l =
-      let a : word ≤ m * p + p = subst (λ z. word ≤ z * p + p) (sym e) (omega (arith, lt-div-mul-add {a = word} {b = p} (omega arith))) in
+      let a : word ≤ m * p + p = subst (λ z. word ≤ z * p + p) (sym e) (omega (arith, lt-div-mul-add {a = word - 1} {b = p} h)) in
       let b : x * m + 1 ≤ q * word + word = omega arith in
       let k : x ≤ word = omega arith in
       omega (arith, mul-le-mul-left x a, mul-le-mul-right p b, mul-le-mul-right p k)

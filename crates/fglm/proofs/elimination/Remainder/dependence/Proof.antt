@@ -1,0 +1,19 @@
+-- `Remainder::dependence` meets its contract.
+use mathlib.Core.Path.{subst}
+use borrow.Author.Needs.{needs}
+use Rattle.fglm.specs.Vectors.{Represents, multiplied}
+use Rattle.fglm.proofs.elimination.Remainder.dependence.Statement.{statement}
+use Rattle.fglm.proofs.elimination.Remainder.dependence.Tie as tie
+
+neg-requires : tie.Need-neg-requires
+neg-requires c κs = search needs
+
+multiply-requires : tie.Need-multiply-requires
+multiply-requires c κs = search needs
+
+returns : tie.Need-returns
+returns c = let s = c .before .before in
+    subst (λ m. Represents (s .args .p) (c .multiply .result) (multiplied (s .args .p) m (s .args .self .combination))) (c .before .neg .ensures .0) (c .multiply .ensures)
+
+pub dependence-spec : {M : Type 1} → statement M
+dependence-spec = tie.close (tie.spec neg-requires multiply-requires returns)
