@@ -14,8 +14,8 @@
 --   whole-passes               the answer yes: the basis passes
 use mathlib.Core.Path.{_≡_, refl, sym, _∙_, ap, subst}
 use mathlib.Core.Bool.{Bool, true, false, false≢true}
-use mathlib.Core.List.{List, [], _∷_, List·Memᴰ·head, List·Memᴰ·tail, List·Memᴰ·not-nil, List·Memᴰ·cases-cons}
-use mathlib.Core.Logic.{inl, inr, _↔_, Iff·symm, Iff·trans, ⊎-elim}
+use mathlib.Core.List.{List}
+use mathlib.Core.Logic.{inl, inr, _↔_, Iff·symm, Iff·trans}
 use mathlib.Core.Option.{none}
 use Prim.Native.Nat.{ℕ, _≤_, _<_}
 use native.Mathlib.Omega.{arith}
@@ -28,7 +28,6 @@ use Rattle.monomial.specs.Ordering.{rows, MonomialOrder, Lex, Grevlex}
 use Rattle.monomial.specs.declared.Monomial.{Monomial}
 use Rattle.monomial.proofs.LexOrder.{lex-order}
 use Rattle.monomial.proofs.GrevlexOrder.{grevlex-order}
-use Rattle.groebner.specs.Polynomials.{_∈_}
 use Rattle.groebner.specs.Lines.{Lines, Reducible}
 use Rattle.groebner.specs.Bases.{Clear}
 use Rattle.groebner.specs.Standard.{ZeroDimensional}
@@ -38,9 +37,8 @@ use Rattle.groebner.proofs.RisingLists.{rising-once}
 use Rattle.groebner.proofs.Next.{next, next-lex, variables-ranking}
 use Rattle.groebner.proofs.IrreducibleList.{irreducibles, Counts, irreducibles-of-lines}
 use Rattle.tabtext.specs.Sizes.{most-standard}
-use Rattle.tabtext.specs.Text.{Each}
 use Rattle.basis.specs.Checks.{Judged, passed}
-use Rattle.basis.specs.declared.Basis.{Basis}
+use Rattle.basis.specs.Held.{Basis}
 use Rattle.basis.specs.declared.Verdict.{Verdict}
 use Rattle.basis.specs.declared.Verdict.the-variants.{Passed, Refused}
 use Rattle.basis.specs.declared.refusal.Refusal.{Refusal}
@@ -61,8 +59,7 @@ use Rattle.reduction.proofs.FailingPairs.{failing-buchberger}
 use Rattle.reduction.proofs.WholeOutcome.{Passing, passing-iff}
 use Rattle.multiplication.specs.Listed.{listed, ListsIrreducibles}
 use Rattle.multiplication.specs.Acceptance.{Acceptance}
-use Rattle.multiplication.specs.declared.accept.Accepted.{Accepted}
-use Rattle.multiplication.specs.declared.coordinates.Tables.{Tables}
+use Rattle.multiplication.specs.Rows.{Tables}
 use Rattle.multiplication.proofs.IrreducibleLists.{multiple-leads}
 use Rattle.division.specs.PairRemainders.{LowPairs}
 use Rattle.division.proofs.LowPairs.{low-pairs}
@@ -141,21 +138,21 @@ module _ (b : Basis) where
     abbrev lines : (h : 1 < b .p) → Lines (modulo (b .p) h) (Grevlex (b .n)) (linesOf b h)
     lines h = sound-lines b sound filled h
 
-    module _ (a : Accepted) (acceptance : Acceptance b l a) where
+    module _ (a : Bool) (t : Tables) (acceptance : Acceptance b l a t) where
       -- 15 speaks of no line exactly if the answer of `accept` is yes.
-      accepted : (h : 1 < b .p) → ((k : ℕ) → ¬ Failing (modulo (b .p) h) (rows (b .n)) (linesOf b h) (Grevlex (b .n)) k) ↔ (a .groebner ≡ true)
+      accepted : (h : 1 < b .p) → ((k : ℕ) → ¬ Failing (modulo (b .p) h) (rows (b .n)) (linesOf b h) (Grevlex (b .n)) k) ↔ (a ≡ true)
       accepted h = Iff·trans (failing-buchberger (ground (b .p) (prime h) (b .n)) (grevlex-order (b .n)) (linesOf b h) (λ g q. lines h .falling g q .0)) (Iff·symm (acceptance .buchberger h))
 
-      pub whole-failing : (k : ℕ) → ((h : 1 < b .p) → Smallest (Failing (modulo (b .p) h) (rows (b .n)) (linesOf b h) (Grevlex (b .n))) k) → a .groebner ≡ false → Outcome b (Refused NotGroebner k)
+      pub whole-failing : (k : ℕ) → ((h : 1 < b .p) → Smallest (Failing (modulo (b .p) h) (rows (b .n)) (linesOf b h) (Grevlex (b .n))) k) → a ≡ false → Outcome b (Refused NotGroebner k)
       whole-failing k first e h = inr (pass h .0, inr (λ z. z (pass h .1), inr (not-large h, smallest-refuses 15 Passes (first h) some)))
         where
           some : ¬ (k ≡ 0)
           some z = false≢true (sym e ∙ accepted h .0 (smallest-passes (subst (Smallest _) z (first h)) (λ f. f .later)))
 
-      passing : a .groebner ≡ true → (h : 1 < b .p) → Passing (b .p) (prime h) (b .n) (linesOf b h)
+      passing : a ≡ true → (h : 1 < b .p) → Passing (b .p) (prime h) (b .n) (linesOf b h)
       passing e h = record { undivided = pass h .0; dimension = λ z. z (pass h .1); unfailing = accepted h .1 e }
 
-      pub whole-passes : a .groebner ≡ true → WholeSays b Passed l (a .tables)
+      pub whole-passes : a ≡ true → WholeSays b Passed l t
       whole-passes e = (
         λ h. let w = passing e h in inr (w .undivided, inr (w .dimension, inr (not-large h, inr (w .unfailing, refl)))),
         record {

@@ -18,15 +18,14 @@ use Rattle.groebner.proofs.MultiplicationRows.{Filled}
 use Rattle.basis.specs.Checks.{Judged, refused, passed, Checked}
 use Rattle.basis.specs.Answers.{basisOf}
 use Rattle.basis.specs.Refusals.{number}
-use Rattle.basis.specs.declared.Basis.{Basis}
+use Rattle.basis.specs.Held.{Basis}
 use Rattle.basis.specs.declared.Verdict.{Verdict}
 use Rattle.basis.specs.declared.Verdict.the-variants.{Passed, Refused}
 use Rattle.reduction.specs.HeldLines.{linesOf}
 use Rattle.reduction.specs.Whole.{Divided, Whole}
 use Rattle.reduction.specs.declared.irreducible.Irreducibles.{Irreducibles}
-use Rattle.multiplication.specs.Rows.{AllBelow, cellOf}
+use Rattle.multiplication.specs.Rows.{AllBelow, cellOf, Tables}
 use Rattle.multiplication.specs.Listed.{listed, ListsIrreducibles}
-use Rattle.multiplication.specs.declared.coordinates.Tables.{Tables}
 
 -- The outcome that a verdict tells.
 abbrev pub told : Verdict → Judged Unit

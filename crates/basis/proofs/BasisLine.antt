@@ -29,7 +29,7 @@ use Rattle.tabtext.proofs.Records.{FoundLine}
 use Rattle.basis.specs.Checks.{Front, checkHeader, Checked, malformed-header, header-refused, header-passed}
 use Rattle.basis.specs.Checks as checks
 use Rattle.basis.specs.Answers.{LinesSays, BasisSays}
-use Rattle.basis.specs.declared.Basis.{Basis}
+use Rattle.basis.specs.Held.{Basis}
 use Rattle.basis.specs.declared.Verdict.{Verdict}
 use Rattle.basis.specs.declared.Verdict.the-variants.{Passed, Refused}
 use Rattle.basis.proofs.Fronts.{front-of-read, no-front, front-same}

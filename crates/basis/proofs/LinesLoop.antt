@@ -20,7 +20,7 @@ use Rattle.tabtext.specs.declared.print.Generator.{Generator}
 use Rattle.basis.specs.Checks.{Judged, checkGenerator, Remaining, generator-passed}
 use Rattle.basis.specs.Checks as checks
 use Rattle.basis.specs.Answers.{basisOf, HeldLine, Stops, LineSays, LinesSays}
-use Rattle.basis.specs.declared.Basis.{Basis}
+use Rattle.basis.specs.Held.{Basis}
 use Rattle.basis.specs.declared.Verdict.{Verdict}
 use Rattle.basis.specs.declared.Verdict.the-variants.{Passed, Refused}
 use Rattle.basis.specs.declared.lines.Turn.the-variants.{Next}

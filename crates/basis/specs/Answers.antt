@@ -30,7 +30,7 @@ use Rattle.tabtext.specs.declared.print.Generator.{Generator}
 use Rattle.basis.specs.Checks.{Judged, refused, passed, asRow, checkTerms, checkGenerator, Front, Remaining, Checked}
 use Rattle.basis.specs.Checks as checks
 use Rattle.basis.specs.Refusals.{number, outcome}
-use Rattle.basis.specs.declared.Basis.{Basis}
+use Rattle.basis.specs.Held.{Basis}
 use Rattle.basis.specs.declared.Verdict.{Verdict}
 use Rattle.basis.specs.declared.Verdict.the-variants.{Passed, Refused}
 use Rattle.basis.specs.declared.lines.Turn.{Turn}

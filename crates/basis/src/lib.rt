@@ -12,15 +12,12 @@ pub mod refusal;
 pub mod term;
 
 use crate::refusal::Refusal;
-use tabtext::print::Generator;
-use tabtext::sizes::MAX_LINES;
 
-// The modulus, the number of variables, and the first lines of the array.
-pub struct Basis {
+// The modulus, the number of variables, and the number of lines of a basis. The lines stand in lent arrays, as the crate store has them.
+pub struct Shape {
     pub p: u16,
     pub n: usize,
     pub lines: usize,
-    pub generators: [Generator; MAX_LINES],
 }
 
 // Passed, or a refusal and its line.
@@ -29,8 +26,8 @@ pub enum Verdict {
     Refused(Refusal, usize),
 }
 
-// The verdict on a text, and the basis that it holds if it passes.
+// The verdict on a text, and the shape of the basis that it holds if it passes.
 pub struct BasisRead {
     pub verdict: Verdict,
-    pub basis: Basis,
+    pub shape: Shape,
 }

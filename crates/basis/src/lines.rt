@@ -4,21 +4,23 @@ ghost use Prim.Native.Nat.{_≤_, _<_};
 ghost use lib.ListN.{length, drop};
 ghost use Rattle.monomial.specs.Sizes.{«most-variables»};
 ghost use Rattle.tabtext.specs.Sizes.{«most-lines»};
+ghost use Rattle.store.specs.Stored.{Arrays};
+ghost use Rattle.basis.specs.Held.{held};
 ghost use Rattle.basis.specs.Answers.{EndSays, LineSays, LinesSays, BasisSays};
 ghost use Rattle.basis.specs.declared.Verdict.the-variants.{Refused};
-use crate::Basis;
 use crate::BasisRead;
+use crate::Shape;
 use crate::Verdict;
 use crate::generator::empty;
 use crate::generator::read_generator;
 use crate::header::check_header;
 use crate::refusal::Check;
 use crate::refusal::Refusal;
+use store::put_line;
 use tabtext::print::Generator;
 use tabtext::record::Kind;
 use tabtext::record::Read;
 use tabtext::record::read_record;
-use tabtext::sizes::MAX_LINES;
 
 // After a line: the text goes on at a place, or the verdict.
 pub enum Turn {
@@ -86,31 +88,39 @@ fn read_line(text: &[u8], at: usize, p: u16, n: usize, k: usize) -> LineRead
     }
 }
 
-// The lines after the basis line, which stand from `start` on.
-fn read_lines(text: &[u8], start: usize, p: u16, n: usize) -> BasisRead
-    requires { ⌜ (n ≤ most-variables) × (0 < p) × (start ≤ length (now text)) ⌝ }
-    ensures { λ r. ⌜ LinesSays p n (drop start (now (text .entry))) (r .verdict) (r .basis) ⌝ }
+// The lines after the basis line, which stand from `start` on: those that pass are stored.
+fn read_lines(
+    text: &[u8],
+    start: usize,
+    p: u16,
+    n: usize,
+    terms: &mut [usize],
+    coefficients: &mut [u16],
+    exponents: &mut [u8],
+) -> BasisRead
+    requires { ⌜ (n ≤ most-variables) × (0 < p) × (start ≤ length (now text)) × Arrays (now terms) (now coefficients) (now exponents) ⌝ }
+    ensures { λ r. ⌜
+        LinesSays p n (drop start (now (text .entry))) (r .verdict) (held (r .shape) (now (terms .exit)) (now (coefficients .exit)) (now (exponents .exit)))
+        × Arrays (now (terms .exit)) (now (coefficients .exit)) (now (exponents .exit))
+        ⌝ }
 {
-    let mut b = Basis {
-        p,
-        n,
-        lines: 0,
-        generators: [empty(); MAX_LINES],
-    };
+    let mut k: usize = 0;
     let mut at = start;
     loop {
-        let l = read_line(text, at, p, n, b.lines);
+        let l = read_line(text, at, p, n, k);
         let turn = l.turn;
         match turn {
             Turn::Next(i) => {
-                let k = b.lines;
                 let g = l.generator;
-                b.generators[k] = g;
-                b.lines = k + 1;
+                put_line(&mut *terms, &mut *coefficients, &mut *exponents, k, g);
+                k += 1;
                 at = i;
             }
             Turn::Stop(verdict) => {
-                return BasisRead { verdict, basis: b };
+                return BasisRead {
+                    verdict,
+                    shape: Shape { p, n, lines: k },
+                };
             }
         }
     }
@@ -122,18 +132,26 @@ fn refused(r: Refusal, line: usize) -> BasisRead
 {
     BasisRead {
         verdict: Verdict::Refused(r, line),
-        basis: Basis {
+        shape: Shape {
             p: 0,
             n: 0,
             lines: 0,
-            generators: [empty(); MAX_LINES],
         },
     }
 }
 
 // The basis that a text holds, or its refusal: checks 2 to 11.
-pub fn read_basis(text: &[u8]) -> BasisRead
-    ensures { λ r. ⌜ BasisSays (now (text .entry)) (r .verdict) (r .basis) ⌝ }
+pub fn read_basis(
+    text: &[u8],
+    terms: &mut [usize],
+    coefficients: &mut [u16],
+    exponents: &mut [u8],
+) -> BasisRead
+    requires { ⌜ Arrays (now terms) (now coefficients) (now exponents) ⌝ }
+    ensures { λ r. ⌜
+        BasisSays (now (text .entry)) (r .verdict) (held (r .shape) (now (terms .exit)) (now (coefficients .exit)) (now (exponents .exit)))
+        × Arrays (now (terms .exit)) (now (coefficients .exit)) (now (exponents .exit))
+        ⌝ }
 {
     let Read::Found(record, next) = read_record(text, 0, 0, 1) else {
         return refused(Refusal::Malformed, 1);
@@ -144,7 +162,15 @@ pub fn read_basis(text: &[u8]) -> BasisRead
     };
     let check = check_header(text, h);
     match check {
-        Check::Pass => read_lines(text, next, h.p as u16, h.n as usize),
+        Check::Pass => read_lines(
+            text,
+            next,
+            h.p as u16,
+            h.n as usize,
+            &mut *terms,
+            &mut *coefficients,
+            &mut *exponents,
+        ),
         Check::Refuse(r) => refused(r, 1),
     }
 }

@@ -23,15 +23,15 @@ use Rattle.groebner.proofs.Division.{Low}
 use Rattle.groebner.proofs.EnumerationOutcome.{Outcome}
 use Rattle.groebner.proofs.Next.{variables-ranking}
 use Rattle.tabtext.specs.Text.{Bytes}
-use Rattle.basis.specs.declared.Basis.{Basis}
+use Rattle.basis.specs.Held.{Basis}
 use Rattle.reduction.specs.HeldLines as read
 use Rattle.reduction.specs.declared.irreducible.Irreducibles.{Irreducibles}
-use Rattle.multiplication.specs.declared.coordinates.Tables.{Tables}
+use Rattle.multiplication.specs.Rows.{Tables}
 use Rattle.acceptance.specs.Answers.{Convertible}
 use Rattle.fglm.specs.Found.{linesOf, standardOf, Printable}
 use Rattle.fglm.specs.Enumerable.{Enumerated}
 use Rattle.fglm.specs.Enumerable as fglm
-use Rattle.fglm.specs.declared.lex_basis.LexBasis.{LexBasis}
+use Rattle.fglm.specs.Lex.{LexBasis}
 use Rattle.fglm.proofs.BasisLines.{convertible, converted-at}
 use Rattle.convert.specs.Written.{written}
 use Rattle.convert.specs.Outcome.{Converts}

@@ -3,20 +3,24 @@
 --   line-stands          the poly line at a place
 --   line-held            the terms of the line at a place are in their array
 --   held-lines           a lex basis has its lines within their arrays
+--   read-many, read-stands, read-held    the same of the lines of arrays, for a line that was read
 use Prim.Native.Nat.{ℕ, _≤_, _<_}
-use mathlib.Core.Path.{_≡_, sym, ap, _∙_}
+use mathlib.Core.Path.{_≡_, sym, ap, _∙_, subst}
 use mathlib.Core.List.{List, [], _∷_}
 use native.Mathlib.Omega.{arith}
 use lib.ListN.{length, getD, take, length-map, List·getD-map}
 use lib.Seq.{getD-take, length-take-le}
-use Rattle.tabtext.specs.Sizes.{most-terms}
+use Rattle.tabtext.specs.Sizes.{most-terms, most-lines}
 use Rattle.tabtext.specs.Text.{Each}
 use Rattle.tabtext.specs.Printed.{generatorOf}
 use Rattle.tabtext.specs.declared.print.Generator.{Generator}
 use Rattle.tabtext.proofs.Separators.{Stands, stands-at}
+use Rattle.store.specs.Stored.{lineIn, linesIn}
+use Rattle.store.proofs.Lines.{lines-length, line-there}
 use Rattle.basis.proofs.EachPlace.{each-take}
 use Rattle.fglm.specs.Found.{PrintableLine, Printable}
-use Rattle.fglm.specs.declared.lex_basis.LexBasis.{LexBasis}
+use Rattle.fglm.specs.Lex.{LexBasis, lexIn}
+use Rattle.fglm.specs.declared.lex_basis.LexShape.{LexShape}
 use Rattle.convert.specs.PolyLines.{HeldLines, polyLines}
 
 module _ (n : ℕ) (b : LexBasis) where
@@ -39,3 +43,20 @@ held-lines {p} {n} {b} w = record { lines = w .lines; each = go (take (b .lines)
     go : (l : List Generator) → Each (PrintableLine p n) l → Each (λ (g : Generator). g .terms ≤ most-terms) l
     go [] e = tt
     go (g ∷ l) e = (e .0 .held .0, go l (e .1))
+
+module _ (b : LexShape) (ts cs es : List ℕ) (few : b .lines ≤ most-lines) where
+  within : b .lines ≤ length (linesIn ts cs es)
+  within = omega (arith, few, lines-length ts cs es)
+
+  pub read-many : (n : ℕ) → length (polyLines n (lexIn b ts cs es)) ≡ b .lines
+  read-many n = polyLines-length n (lexIn b ts cs es) within
+
+  module _ (j : ℕ) (g : Generator) (read : g ≡ lineIn ts cs es j) (inside : j < b .lines) where
+    there : getD (linesIn ts cs es) j g ≡ g
+    there = line-there ts cs es j g (omega (arith, few, inside)) ∙ sym read
+
+    pub read-stands : (n : ℕ) → Stands (polyLines n (lexIn b ts cs es)) j (generatorOf n g)
+    read-stands n = subst (λ g. Stands (polyLines n (lexIn b ts cs es)) j (generatorOf n g)) there (line-stands n (lexIn b ts cs es) j g inside within)
+
+    pub read-held : HeldLines (lexIn b ts cs es) → g .terms ≤ most-terms
+    read-held held = subst (λ (g : Generator). g .terms ≤ most-terms) there (line-held (lexIn b ts cs es) j g held inside within)

@@ -20,7 +20,7 @@ use Rattle.tabtext.proofs.Separators.{points-counted, end-counted}
 use Rattle.tabtext.proofs.Widths.{number-width-5, header-width, counted-width}
 use Rattle.reduction.specs.Generators as read
 use Rattle.fglm.specs.Found.{linesOf, standardOf, Printable}
-use Rattle.fglm.specs.declared.lex_basis.LexBasis.{LexBasis}
+use Rattle.fglm.specs.Lex.{LexBasis}
 use Rattle.convert.specs.Written.{written}
 use Rattle.convert.specs.PolyLines.{polyLines}
 use Rattle.convert.proofs.LineSequence.{text-line, text-append}

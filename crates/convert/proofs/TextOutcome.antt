@@ -15,7 +15,7 @@ use Rattle.tabtext.specs.Text.{Bytes}
 use Rattle.basis.specs.Checks.{Judged, refused, passed, Checked}
 use Rattle.basis.specs.Answers.{basisOf}
 use Rattle.basis.specs.Refusals.{number}
-use Rattle.basis.specs.declared.Basis.{Basis}
+use Rattle.basis.specs.Held.{Basis}
 use Rattle.basis.specs.declared.Verdict.{Verdict}
 use Rattle.basis.specs.declared.Verdict.the-variants.{Passed, Refused}
 use Rattle.basis.specs.declared.refusal.Refusal.{Refusal}
@@ -24,7 +24,7 @@ use Rattle.basis.proofs.Passes.{passes-iff}
 use Rattle.reduction.specs.Generators.{generators}
 use Rattle.reduction.specs.HeldLines.{linesOf}
 use Rattle.reduction.specs.declared.irreducible.Irreducibles.{Irreducibles}
-use Rattle.multiplication.specs.declared.coordinates.Tables.{Tables}
+use Rattle.multiplication.specs.Rows.{Tables}
 use Rattle.acceptance.specs.Answers as acceptance
 use Rattle.acceptance.proofs.LaterChecks.{whole-refused, whole-later}
 use Rattle.convert.specs.Outcome.{Outcome}

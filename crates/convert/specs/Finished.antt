@@ -10,7 +10,7 @@ use Rattle.monomial.specs.Rows.{Row}
 use Rattle.groebner.specs.Lines.{Line}
 use Rattle.tabtext.specs.Text.{Bytes}
 use Rattle.basis.specs.Checks.{passed}
-use Rattle.basis.specs.declared.Basis.{Basis}
+use Rattle.basis.specs.Held.{Basis}
 use Rattle.basis.specs.declared.refusal.Refusal.the-variants.{NoRoom}
 use Rattle.reduction.specs.HeldLines.{linesOf}
 use Rattle.convert.specs.Written.{written}

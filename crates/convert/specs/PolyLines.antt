@@ -8,7 +8,7 @@ use Rattle.tabtext.specs.Sizes.{most-terms, most-lines}
 use Rattle.tabtext.specs.Text.{Each, Line}
 use Rattle.tabtext.specs.Printed.{generatorOf}
 use Rattle.tabtext.specs.declared.print.Generator.{Generator}
-use Rattle.fglm.specs.declared.lex_basis.LexBasis.{LexBasis}
+use Rattle.fglm.specs.Lex.{LexBasis}
 
 -- The lines are in their array, and the terms of each in theirs.
 pub record HeldLines (b : LexBasis) : Type 0 where

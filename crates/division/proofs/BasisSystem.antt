@@ -27,7 +27,7 @@ use Rattle.groebner.proofs.Ground.{PolynomialRing}
 use Rattle.groebner.proofs.Division.{Place, Low, rewriting}
 use Rattle.groebner.proofs.NormalForms.{Rewriting}
 use Rattle.groebner.proofs.Instance.{ground}
-use Rattle.basis.specs.declared.Basis.{Basis}
+use Rattle.basis.specs.Held.{Basis}
 use Rattle.reduction.specs.HeldLines.{linesOf}
 use Rattle.reduction.specs.Leads.{rowsOf, LeadsOf}
 use Rattle.reduction.specs.Sound.{generatorAt, Sound}

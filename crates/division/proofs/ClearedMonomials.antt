@@ -11,7 +11,7 @@ use Prim.Native.Nat.{ℕ, _<_}
 use lib.ListN.{getD}
 use Rattle.residue.specs.Modular.{negation}
 use Rattle.monomial.specs.Rows.{Row}
-use Rattle.basis.specs.declared.Basis.{Basis}
+use Rattle.basis.specs.Held.{Basis}
 use Rattle.division.specs.GrevlexPlace.{place}
 use Rattle.division.specs.CoefficientArray.{Adds}
 use Rattle.division.specs.Clearing.{leadAt, lineMultiple, FirstDivisor}

@@ -12,7 +12,7 @@ use Rattle.monomial.specs.Rows.{Row, one}
 use Rattle.monomial.specs.Ordering.{rows, Grevlex}
 use Rattle.groebner.specs.Lines.{Line}
 use Rattle.groebner.specs.Bases.{SPolynomial}
-use Rattle.basis.specs.declared.Basis.{Basis}
+use Rattle.basis.specs.Held.{Basis}
 use Rattle.reduction.specs.HeldLines.{linesOf}
 use Rattle.reduction.specs.Whole.{On, Failing}
 use Rattle.division.specs.Clearing.{lineAt}

@@ -5,14 +5,13 @@
 --   quotient-row         the quotient, as the code has it
 --   quotient-product     the multiple's leading monomial is m
 --   multiple-of-line     what is added
---   lcm-row              the least common multiple of two leading monomials, as the code has it
-use mathlib.Core.Path.{_≡_, sym, _∙_, ap, ap₂}
+use mathlib.Core.Path.{_≡_, sym, _∙_, ap}
 use mathlib.Core.Bool.{true}
 use mathlib.Core.List.{List}
 use Prim.Native.Nat.{ℕ, _≤_, _<_}
 use lib.ListN.{getD}
 use Rattle.residue.specs.Field.{modulo}
-use Rattle.monomial.specs.Rows.{Row, exponent, product, quotient, lcm, divides}
+use Rattle.monomial.specs.Rows.{Row, exponent, product, quotient, divides}
 use Rattle.monomial.specs.Ordering.{rows}
 use Rattle.monomial.specs.Represented.{row, monomial}
 use Rattle.monomial.specs.declared.Monomial.{Monomial}
@@ -53,6 +52,3 @@ module _ (n : ℕ) (g : Generator) where
   unfolding multipleOf
   multiple-of-line p m c u e a = adds-same p n (λ h x. ap (λ v. coef (modulo p h) (rows n) (scale (modulo p h) (residue p h c)
       (shift (rows n) v (polynomial (modulo p h) (generator p h n (termsIn n g))))) x) e) a
-
-pub lcm-row : (n : ℕ) (f g : Generator) (r : Monomial) → r ≡ monomial n (lcm n (row n (leadRead f)) (row n (leadRead g))) → row n r ≡ lcm n (row n (monomialAt f 0)) (row n (monomialAt g 0))
-lcm-row n f g r e = ap (row n) e ∙ row-monomial n _ ∙ ap₂ (lcm n) (lead-read n f) (lead-read n g)

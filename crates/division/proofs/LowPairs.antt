@@ -10,7 +10,7 @@ use Rattle.monomial.specs.Rows.{one}
 use Rattle.monomial.specs.Ordering.{rows}
 use Rattle.groebner.specs.Polynomials.{_∈_}
 use Rattle.groebner.specs.Standard.{ZeroDimensional}
-use Rattle.basis.specs.declared.Basis.{Basis}
+use Rattle.basis.specs.Held.{Basis}
 use Rattle.reduction.specs.HeldLines.{linesOf}
 use Rattle.reduction.specs.Sound.{Sound}
 use Rattle.reduction.specs.Whole.{Divided, Large}

@@ -15,7 +15,7 @@ use Rattle.groebner.specs.Polynomials.{coef}
 use Rattle.groebner.proofs.Modules.{mul-zero}
 use Rattle.groebner.proofs.Terms.{coef-scale}
 use Rattle.groebner.proofs.Division.{coef-lead, coef-above}
-use Rattle.basis.specs.declared.Basis.{Basis}
+use Rattle.basis.specs.Held.{Basis}
 use Rattle.reduction.specs.Generators.{residue}
 use Rattle.reduction.specs.HeldLines.{linesOf}
 use Rattle.reduction.specs.Sound.{Sound}

@@ -31,7 +31,7 @@ use Rattle.groebner.proofs.Ground.{divides-antisym, cancel-right}
 use Rattle.groebner.proofs.Division.{remainder, remainder-unique}
 use Rattle.groebner.proofs.NormalForms.{NF}
 use Rattle.groebner.proofs.Buchberger.{zero-iff-NF}
-use Rattle.basis.specs.declared.Basis.{Basis}
+use Rattle.basis.specs.Held.{Basis}
 use Rattle.reduction.specs.Generators.{residue}
 use Rattle.reduction.specs.HeldLines.{linesOf}
 use Rattle.reduction.specs.Sound.{Sound}

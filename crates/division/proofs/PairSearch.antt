@@ -12,7 +12,7 @@ use borrow.Author.Count.{below-more}
 use lib.ListN.{length, getD}
 use Rattle.residue.specs.Field.{modulo}
 use Rattle.monomial.specs.Ordering.{rows, Grevlex}
-use Rattle.basis.specs.declared.Basis.{Basis}
+use Rattle.basis.specs.Held.{Basis}
 use Rattle.reduction.specs.HeldLines.{linesOf}
 use Rattle.reduction.specs.Sound.{Sound}
 use Rattle.reduction.specs.Whole.{Failing, Smallest}

@@ -30,7 +30,7 @@ use Rattle.groebner.proofs.Terms.{coef-nil}
 use Rattle.groebner.proofs.Division.{remainder-NF}
 use Rattle.groebner.proofs.NormalForms.{NF}
 use Rattle.groebner.proofs.GroebnerBases.{zero-remainder}
-use Rattle.basis.specs.declared.Basis.{Basis}
+use Rattle.basis.specs.Held.{Basis}
 use Rattle.reduction.specs.HeldLines.{linesOf}
 use Rattle.reduction.specs.Sound.{Sound}
 use Rattle.division.specs.GrevlexPlace.{place, most-degree}

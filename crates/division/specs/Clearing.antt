@@ -20,7 +20,7 @@ use Rattle.groebner.specs.Lines.{Line, polynomial}
 use Rattle.groebner.specs.Remainders.{Remainder}
 use Rattle.tabtext.specs.Printed.{termsIn}
 use Rattle.tabtext.specs.declared.print.Generator.{Generator}
-use Rattle.basis.specs.declared.Basis.{Basis}
+use Rattle.basis.specs.Held.{Basis}
 use Rattle.reduction.specs.Generators.{residue, generator}
 use Rattle.reduction.specs.HeldLines.{linesOf}
 use Rattle.reduction.specs.Sound.{monomialAt, generatorAt}

@@ -19,7 +19,7 @@ use Rattle.monomial.specs.Ordering.{rows, Grevlex}
 use Rattle.groebner.specs.Polynomials.{Poly}
 use Rattle.groebner.specs.Remainders.{Remainder}
 use Rattle.groebner.specs.Bases.{SPolynomial}
-use Rattle.basis.specs.declared.Basis.{Basis}
+use Rattle.basis.specs.Held.{Basis}
 use Rattle.reduction.specs.HeldLines.{linesOf}
 use Rattle.division.specs.GrevlexPlace.{place, most-degree}
 use Rattle.division.specs.CoefficientArray.{Work}

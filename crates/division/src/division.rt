@@ -7,7 +7,7 @@
 ghost use mathlib.Core.Path.{_≡_};
 ghost use mathlib.Core.Bool.{true};
 ghost use mathlib.Core.List.{[], _∷_};
-ghost use Prim.Native.Nat.{ℕ, _≤_, _<_};
+ghost use Prim.Native.Nat.{_≤_, _<_};
 ghost use lib.ListN.{getD};
 ghost use Rattle.residue.specs.Field.{modulo};
 ghost use Rattle.monomial.specs.Sizes.{«most-variables»};
@@ -18,6 +18,8 @@ ghost use Rattle.groebner.specs.Polynomials.{scale, shift};
 ghost use Rattle.groebner.specs.Lines.{polynomial};
 ghost use Rattle.tabtext.specs.Sizes.{«most-lines»};
 ghost use Rattle.tabtext.specs.Printed.{termsIn};
+ghost use Rattle.store.specs.Stored.{Arrays};
+ghost use Rattle.basis.specs.Held.{held};
 ghost use Rattle.reduction.specs.Generators.{residue, generator};
 ghost use Rattle.reduction.specs.Leads.{rowsOf};
 ghost use Rattle.reduction.specs.Sound.{monomialAt, SoundLine, Sound};
@@ -26,10 +28,11 @@ ghost use Rattle.division.specs.CoefficientArray.{Work, Adds};
 ghost use Rattle.division.specs.Clearing.{multipleOf, FirstDivisor, Sweeps};
 use crate::grevlex::before;
 use crate::grevlex::place;
-use basis::Basis;
+use basis::Shape;
 use monomial::Monomial;
 use reduction::leads::Leads;
 use residue::Residue;
+use store::line_at;
 use tabtext::print::Generator;
 
 // c·m is added.
@@ -81,11 +84,21 @@ fn earliest(leads: Leads, m: Monomial, n: usize) -> usize
 }
 
 // Whether the remainder of what the array holds is zero: each monomial in turn, from the greatest down, is cleared by the earliest line that divides it. The array is zero at top and above it.
-pub fn sweep(work: &mut [u16], b: Basis, top: Monomial) -> bool
-    requires { ⌜ Sound b × Work (b .p) (b .n) (now work) × (degree (b .n) (row (b .n) top) ≤ most-degree) × ((a : Row (b .n)) → place (b .n) (row (b .n) top) ≤ place (b .n) a → getD (now work) (place (b .n) a) 0 ≡ 0) ⌝ }
-    ensures { λ r. ⌜ Sweeps b (now (work .entry)) (now (work .exit)) r ⌝ }
+pub fn sweep(
+    work: &mut [u16],
+    terms: &[usize],
+    coefficients: &[u16],
+    exponents: &[u8],
+    b: Shape,
+    top: Monomial,
+) -> bool
+    requires { ⌜
+        Arrays (now terms) (now coefficients) (now exponents) × Sound (held b (now terms) (now coefficients) (now exponents)) × Work (b .p) (b .n) (now work)
+        × (degree (b .n) (row (b .n) top) ≤ most-degree) × ((a : Row (b .n)) → place (b .n) (row (b .n) top) ≤ place (b .n) a → getD (now work) (place (b .n) a) 0 ≡ 0)
+        ⌝ }
+    ensures { λ r. ⌜ Sweeps (held b (now (terms .entry)) (now (coefficients .entry)) (now (exponents .entry))) (now (work .entry)) (now (work .exit)) r ⌝ }
 {
-    let leads = Leads::of(b);
+    let leads = Leads::of(exponents, b.lines);
     let mut m = top;
     let mut at = place(top, b.n);
     while 0 < at {
@@ -97,7 +110,7 @@ pub fn sweep(work: &mut [u16], b: Basis, top: Monomial) -> bool
             if k == b.lines {
                 return false;
             }
-            let g = b.generators[k];
+            let g = line_at(terms, coefficients, exponents, k);
             add_line(&mut *work, c.neg(b.p), m, g, b.p, b.n);
         }
     }

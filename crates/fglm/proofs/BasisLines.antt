@@ -20,15 +20,14 @@ use Rattle.groebner.proofs.MultiplicationRows.{Filled}
 use Rattle.groebner.proofs.Next.{Ranking}
 use Rattle.groebner.proofs.RisingLists.{rising-once}
 use Rattle.groebner.proofs.EnumerationOutcome.{Outcome}
-use Rattle.basis.specs.declared.Basis.{Basis}
+use Rattle.basis.specs.Held.{Basis}
 use Rattle.reduction.specs.HeldLines as read
 use Rattle.reduction.specs.declared.irreducible.Irreducibles.{Irreducibles}
-use Rattle.multiplication.specs.Rows.{AllBelow, cellOf}
+use Rattle.multiplication.specs.Rows.{AllBelow, cellOf, Tables}
 use Rattle.multiplication.specs.Listed.{listed, ListsIrreducibles}
-use Rattle.multiplication.specs.declared.coordinates.Tables.{Tables}
 use Rattle.fglm.specs.Found.{linesOf, standardOf, Printable}
 use Rattle.fglm.specs.Enumerable.{Enumerable, Convertible, Enumerated}
-use Rattle.fglm.specs.declared.lex_basis.LexBasis.{LexBasis}
+use Rattle.fglm.specs.Lex.{LexBasis}
 
 module _ (b : Basis) (t : Reciprocals) (same : t .p ≡ b .p) (s : List ℕ) (l : Irreducibles) (tables : Tables) where
   abbrev n : ℕ

@@ -42,10 +42,9 @@ use Rattle.reduction.specs.declared.irreducible.Irreducibles.{Irreducibles}
 use Rattle.reduction.specs.declared.leads.Leads.{Leads}
 use Rattle.reduction.proofs.HeldRows.{held-row, held, one-held}
 use Rattle.reduction.proofs.RowsInTurn.{rows-store}
-use Rattle.multiplication.specs.Rows.{Below}
+use Rattle.multiplication.specs.Rows.{Below, Tables}
 use Rattle.multiplication.specs.Listed.{listed}
 use Rattle.multiplication.specs.declared.coordinates.Coordinates.{Coordinates}
-use Rattle.multiplication.specs.declared.coordinates.Tables.{Tables}
 use Rattle.fglm.specs.Vectors.{Whole, FirstPlace}
 use Rattle.fglm.specs.RowState.{Sound}
 use Rattle.fglm.specs.Elimination.{LeftOf, Room, Adds}

@@ -14,6 +14,7 @@
 --   LineTerms         the terms of the line of a dependent monomial
 --   VariableSearch    the loop of `first_variable`
 --   ImageArrays       the rows of the standard monomials in one array
+--   StandardRanks     the ranks of the standard monomials
 --   RowImages         the rules that `image_of` goes by
 --   NormalImages      the rows of the code as images of monomials
 --   WrittenMore       lines in the order of a list of monomials, and one monomial more
@@ -35,6 +36,7 @@ pub mod PlacedTerms
 pub mod LineTerms
 pub mod VariableSearch
 pub mod ImageArrays
+pub mod StandardRanks
 pub mod RowImages
 pub mod NormalImages
 pub mod WrittenMore

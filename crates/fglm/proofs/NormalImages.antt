@@ -28,10 +28,9 @@ use Rattle.groebner.proofs.ImageCoordinates.{vector}
 use Rattle.groebner.proofs.MultiplicationRows.{multiply, Filled, NormalRow, row-one, row-next}
 use Rattle.reduction.specs.Generators.{residue}
 use Rattle.reduction.specs.declared.irreducible.Irreducibles.{Irreducibles}
-use Rattle.multiplication.specs.Rows.{coordinate, indicator, coordinatesOf, cellOf}
+use Rattle.multiplication.specs.Rows.{coordinate, indicator, coordinatesOf, cellOf, Tables}
 use Rattle.multiplication.specs.Listed.{listed, listedAt}
 use Rattle.multiplication.specs.declared.coordinates.Coordinates.{Coordinates}
-use Rattle.multiplication.specs.declared.coordinates.Tables.{Tables}
 use Rattle.multiplication.proofs.UnitRows.{indicator-same, indicator-other}
 use Rattle.fglm.specs.Vectors.{Whole}
 use Rattle.fglm.specs.Images.{Image}

@@ -17,10 +17,9 @@ use Rattle.groebner.proofs.Places.{place-of}
 use Rattle.groebner.proofs.Variables.{variable}
 use Rattle.reduction.specs.declared.irreducible.Irreducibles.{Irreducibles}
 use Rattle.reduction.proofs.ArrayRows.{rows-length}
-use Rattle.multiplication.specs.Rows.{coordinate, indicator, Multiplied}
+use Rattle.multiplication.specs.Rows.{coordinate, indicator, Multiplied, Tables}
 use Rattle.multiplication.specs.Listed.{listed, listedAt, Place}
 use Rattle.multiplication.specs.declared.coordinates.Coordinates.{Coordinates}
-use Rattle.multiplication.specs.declared.coordinates.Tables.{Tables}
 use Rattle.multiplication.proofs.UnitRows.{indicator-other, indicator-below}
 use Rattle.fglm.specs.ImageRows.{imageAt, OneRow, DivisorsFound, ImageRow}
 use Rattle.fglm.specs.ImageRows.ImageRule.{of-one, of-product}

@@ -61,7 +61,7 @@ use Rattle.reduction.specs.declared.irreducible.Irreducibles.{Irreducibles}
 use Rattle.reduction.specs.declared.leads.Leads.{Leads}
 use Rattle.multiplication.specs.Listed.{listed, listedAt}
 use Rattle.multiplication.specs.declared.coordinates.Coordinates.{Coordinates}
-use Rattle.multiplication.specs.declared.coordinates.Tables.{Tables}
+use Rattle.multiplication.specs.Rows.{Tables}
 use Rattle.fglm.specs.Vectors.{Whole}
 use Rattle.fglm.specs.Vectors as vectors
 use Rattle.fglm.specs.RowState.{state}

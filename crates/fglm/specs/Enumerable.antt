@@ -24,11 +24,10 @@ use Rattle.groebner.proofs.Next.{Ranking}
 use Rattle.groebner.proofs.EnumerationOutcome.{Outcome}
 use Rattle.tabtext.specs.Sizes.{most-standard}
 use Rattle.reduction.specs.declared.irreducible.Irreducibles.{Irreducibles}
-use Rattle.multiplication.specs.Rows.{cellOf, AllBelow}
+use Rattle.multiplication.specs.Rows.{cellOf, AllBelow, Tables}
 use Rattle.multiplication.specs.Listed.{listed}
-use Rattle.multiplication.specs.declared.coordinates.Tables.{Tables}
 use Rattle.fglm.specs.Found.{linesOf, standardOf, Printable}
-use Rattle.fglm.specs.declared.lex_basis.LexBasis.{LexBasis}
+use Rattle.fglm.specs.Lex.{LexBasis}
 
 -- The lines G are a Groebner basis in grevlex, no term of one a multiple of another's leading monomial; l lists its irreducible monomials.
 pub record Enumerable (p : ℕ) (prime : Prime p) (n : ℕ) (l : Irreducibles) (t : Tables) (G : List (Line (ZMod p) (Row n))) : Type 0 where

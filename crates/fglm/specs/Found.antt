@@ -18,7 +18,7 @@ use Rattle.tabtext.specs.declared.print.Generator.{Generator}
 use Rattle.basis.specs.Checks.{Monic}
 use Rattle.basis.specs.Answers.{Held, HeldLine}
 use Rattle.reduction.specs.Generators.{generators}
-use Rattle.fglm.specs.declared.lex_basis.LexBasis.{LexBasis}
+use Rattle.fglm.specs.Lex.{LexBasis}
 
 -- Its lines.
 unfoldable pub linesOf : (p : ℕ) → 1 < p → (n : ℕ) → LexBasis → List (Line (ZMod p) (Row n))

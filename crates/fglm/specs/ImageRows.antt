@@ -21,10 +21,9 @@ use Rattle.groebner.specs.Polynomials.{_∈_}
 use Rattle.groebner.proofs.Variables.{variable}
 use Rattle.groebner.proofs.MultiplicationRows.{multiply}
 use Rattle.reduction.specs.declared.irreducible.Irreducibles.{Irreducibles}
-use Rattle.multiplication.specs.Rows.{coordinate, indicator, Below, coordinatesOf, cellOf}
+use Rattle.multiplication.specs.Rows.{coordinate, indicator, Below, coordinatesOf, cellOf, Tables}
 use Rattle.multiplication.specs.Listed.{listed, listedAt, Place}
 use Rattle.multiplication.specs.declared.coordinates.Coordinates.{Coordinates}
-use Rattle.multiplication.specs.declared.coordinates.Tables.{Tables}
 
 -- The number of the coefficients of the rows of all standard monomials.
 abbrev pub most-images : ℕ

@@ -4,6 +4,7 @@
 --   Elimination   row elimination over these rows, and what adding a vector gives
 --   Steps         what the steps of the elimination give
 --   Images        what rows and answers say of the images of monomials
+--   Lex           a lex basis of the code
 --   Found         the lines and the standard monomials of a lex basis
 --   WrittenLines  the line of a monomial that depends on standard monomials
 --   ImageRows     the row of a monomial, from those of the standard monomials
@@ -13,6 +14,7 @@ pub mod RowState
 pub mod Elimination
 pub mod Steps
 pub mod Images
+pub mod Lex
 pub mod Found
 pub mod WrittenLines
 pub mod ImageRows

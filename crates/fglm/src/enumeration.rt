@@ -1,26 +1,28 @@
 // The FGLM enumeration (document 01, "The walk"): the lex basis of lines that are a Groebner basis in grevlex.
 ghost use mathlib.Core.Path.{_≡_};
 ghost use Prim.Native.Nat.{_<_};
-ghost use lib.ListN.{take};
+ghost use lib.ListN.{length, take};
 ghost use Rattle.tabtext.specs.Sizes.{«most-standard»};
+ghost use Rattle.multiplication.specs.Rows.{«most-cells», tablesOf};
+ghost use Rattle.store.specs.Stored.{Arrays};
+ghost use Rattle.fglm.specs.Lex.{lexIn};
 ghost use Rattle.fglm.specs.Enumerable.{Convertible, Enumerated, Pushed};
 use crate::elimination::Rows;
 use crate::image::MAX_IMAGES;
 use crate::image::image_of;
 use crate::image::put_image;
-use crate::lex_basis::LexBasis;
+use crate::lex_basis::LexShape;
 use crate::line::line_of;
 use crate::vectors::Found;
-use basis::generator::empty;
 use monomial::Monomial;
 use monomial::order::Ranking;
-use multiplication::coordinates::Tables;
+use multiplication::ranks::rank;
 use reduction::irreducible::Irreducibles;
 use reduction::leads::Leads;
 use reduction::next::NextMonomial;
 use reduction::next::next;
 use residue::reciprocals::Reciprocals;
-use tabtext::sizes::MAX_LINES;
+use store::put_line;
 use tabtext::sizes::MAX_STANDARD;
 
 // No monomials.
@@ -47,47 +49,62 @@ fn pushed(l: Irreducibles, m: Monomial) -> Irreducibles
 }
 
 // Monomials are visited in rising lex order. One that depends on the standard monomials before it makes a line, whose multiples are passed over.
+// The lines are left in the lent arrays.
 pub fn enumerate(
+    terms: &mut [usize],
+    coefficients: &mut [u16],
+    exponents: &mut [u8],
+    cells: &[u16],
     l: Irreducibles,
-    t: Tables,
     ranking: Ranking,
     reciprocals: Reciprocals,
     n: usize,
-) -> LexBasis
-    requires { ⌜ Convertible reciprocals n (take n (ranking .variables)) l t ⌝ }
-    ensures { λ r. ⌜ Enumerated reciprocals n (take n (ranking .variables)) l t r ⌝ }
+) -> LexShape
+    requires { ⌜
+        Arrays (now terms) (now coefficients) (now exponents) × (length (now cells) ≡ most-cells)
+        × Convertible reciprocals n (take n (ranking .variables)) l (tablesOf (now cells))
+        ⌝ }
+    ensures { λ r. ⌜
+        Arrays (now (terms .exit)) (now (coefficients .exit)) (now (exponents .exit))
+        × Enumerated reciprocals n (take n (ranking .variables)) l (tablesOf (now (cells .entry))) (lexIn r (now (terms .exit)) (now (coefficients .exit)) (now (exponents .exit)))
+        ⌝ }
 {
-    let cells = t.cells;
     let mut rows = Rows::none();
     let mut images: [u16; MAX_IMAGES] = [0; MAX_IMAGES];
+    let mut ranks: [u64; MAX_STANDARD] = [0; MAX_STANDARD];
     let mut standard = no_monomials();
     let mut leads = Leads::none();
-    let mut generators = [empty(); MAX_LINES];
     let mut m = NextMonomial {
         found: true,
         monomial: Monomial::one(),
     };
     while m.found {
         let v = m.monomial;
-        let w = image_of(&cells, &images, v, standard, l, reciprocals.p, n);
+        let w = image_of(cells, &images, &ranks, v, standard, l, reciprocals.p, n);
         let x = rows.remainder(w, reciprocals.p);
         let Found::Pivot(pivot) = x.found() else {
             let g = line_of(v, x.dependence(reciprocals.p), standard, reciprocals.p, n);
-            let k = leads.count;
-            generators[k] = g;
+            put_line(
+                &mut *terms,
+                &mut *coefficients,
+                &mut *exponents,
+                leads.count,
+                g,
+            );
             leads = leads.push(v);
             m = next(leads, v, ranking, n);
             continue;
         };
         rows = rows.insert(x.scaled(pivot, reciprocals), reciprocals.p);
-        put_image(&mut images, standard.count, w);
+        let k = standard.count;
+        put_image(&mut images, k, w);
+        ranks[k] = rank(v, n);
         standard = pushed(standard, v);
         m = next(leads, v, ranking, n);
     }
     let monomials = standard.monomials;
-    LexBasis {
+    LexShape {
         lines: leads.count,
-        generators,
         count: standard.count,
         standard: monomials,
     }

@@ -7,6 +7,8 @@ ghost use Rattle.monomial.specs.Sizes.{«most-variables»};
 ghost use Rattle.monomial.specs.Represented.{row};
 ghost use Rattle.tabtext.specs.Sizes.{«most-standard»};
 ghost use Rattle.multiplication.specs.Rows.{«most-cells», Below, tablesOf, AllBelow};
+ghost use Rattle.multiplication.specs.Ranks.{RanksOf};
+ghost use Rattle.multiplication.specs.Listed.{listed};
 ghost use Rattle.fglm.specs.ImageRows.{«most-images», imageAt, ImagePut, FirstVariable, OneRow, DivisorsFound, ImageRow};
 use monomial::Monomial;
 use multiplication::coordinates::Coordinates;
@@ -14,6 +16,8 @@ use multiplication::coordinates::apply;
 use multiplication::place::over_variable;
 use multiplication::place::place_of;
 use multiplication::place::variable_divides;
+use multiplication::ranks::rank;
+use multiplication::ranks::rank_place;
 use reduction::irreducible::Irreducibles;
 use residue::Residue;
 use tabtext::sizes::MAX_STANDARD;
@@ -82,6 +86,7 @@ fn one_row(l: Irreducibles, n: usize) -> Coordinates
 pub fn image_of(
     cells: &[u16],
     images: &[u16],
+    ranks: &[u64],
     m: Monomial,
     standard: Irreducibles,
     l: Irreducibles,
@@ -90,7 +95,7 @@ pub fn image_of(
 ) -> Coordinates
     requires { ⌜
         (length (now cells) ≡ most-cells) × (length (now images) ≡ most-images) × (n ≤ most-variables) × (l .count ≤ most-standard) × (standard .count ≤ most-standard) × (1 < p) × (p ≤ largest-modulus)
-        × AllBelow p (tablesOf (now cells))
+        × AllBelow p (tablesOf (now cells)) × RanksOf n (listed n standard) (standard .count) (now ranks)
         × ((s : ℕ) → s < standard .count → Below p (imageAt (now images) s)) × DivisorsFound n standard (row n m)
         ⌝ }
     ensures { λ r. ⌜ ImageRow p n m (now (images .entry)) standard (tablesOf (now (cells .entry))) l r ⌝ }
@@ -100,6 +105,7 @@ pub fn image_of(
         return one_row(l, n);
     }
     let b = over_variable(m, i, n);
-    let w = image_at(images, place_of(standard, b, n));
+    let s = rank_place(ranks, standard.count, rank(b, n));
+    let w = image_at(images, s);
     apply(cells, i, w, l.count, p)
 }

@@ -1,13 +1,10 @@
-// The lex basis and the standard monomials that the enumeration finds.
+// The shape of the lex basis that the enumeration finds, and its standard monomials.
 use monomial::Monomial;
-use tabtext::print::Generator;
-use tabtext::sizes::MAX_LINES;
 use tabtext::sizes::MAX_STANDARD;
 
-// The first lines and the first monomials of the arrays, both in rising order.
-pub struct LexBasis {
+// The number of lines, which stand in lent arrays as the crate store has them, and the first monomials of the array; both in rising order.
+pub struct LexShape {
     pub lines: usize,
-    pub generators: [Generator; MAX_LINES],
     pub count: usize,
     pub standard: [Monomial; MAX_STANDARD],
 }

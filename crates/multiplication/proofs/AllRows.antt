@@ -1,6 +1,7 @@
 -- The loop of `fill`.
 --   room l n        what is left of the numbers of l up to n, together
 --   room-less       one of them raised
+--   rows-length     the number of the cells where no row is filled
 --   Filling b l t c    the rows below the cursors c are filled in the tables t
 --   filling-none    at first none
 --   filling-more    one row more
@@ -23,16 +24,15 @@ use Rattle.monomial.proofs.GrevlexOrder.{grevlex-order}
 use Rattle.groebner.proofs.Division.{Low}
 use Rattle.groebner.proofs.MultiplicationRows.{Filled}
 use Rattle.tabtext.specs.Sizes.{most-standard}
-use Rattle.basis.specs.declared.Basis.{Basis}
+use Rattle.basis.specs.Held.{Basis}
 use Rattle.reduction.specs.Generators.{residue}
 use Rattle.reduction.specs.HeldLines.{linesOf}
 use Rattle.reduction.specs.Sound.{Sound}
-use Rattle.multiplication.specs.Rows.{most-cells, rowStart, cellAt, AllBelow, RowPut, coordinatesOf, cellOf}
+use Rattle.multiplication.specs.Rows.{most-cells, NoRows, rowStart, cellAt, AllBelow, RowPut, coordinatesOf, cellOf, Tables}
 use Rattle.multiplication.specs.Listed.{listed, ListsIrreducibles}
 use Rattle.multiplication.specs.Rules.{RowFor}
 use Rattle.multiplication.specs.Cursors.{cursor, Best}
 use Rattle.multiplication.specs.declared.coordinates.Coordinates.{Coordinates}
-use Rattle.multiplication.specs.declared.coordinates.Tables.{Tables}
 use Rattle.reduction.specs.declared.irreducible.Irreducibles.{Irreducibles}
 use Rattle.multiplication.specs.declared.fill.Cursors.{Cursors}
 use Rattle.multiplication.proofs.Storing.{zeros-at}
@@ -50,17 +50,20 @@ room-less [] n i h u = absurd (omega arith)
 room-less (a ∷ l) n zero h u = omega arith
 room-less (a ∷ l) n (suc i) h u = omega (arith, room-less l n i (omega arith) u)
 
+pub rows-length : {cells : List ℕ} → NoRows cells → length cells ≡ most-cells
+rows-length e = ap length e ∙ length-replicate {A = ℕ} most-cells 0
+
 pub record Filling (b : Basis) (l : Irreducibles) (t : Tables) (c : Cursors) : Type 0 where
   pub size : length (t .cells) ≡ most-cells
   pub cursors : length (c .at) ≡ most-variables
   pub below : AllBelow (b .p) t
   pub progress : (h : 1 < b .p) → Progress (modulo (b .p) h) (b .n) (linesOf b h) (listed (b .n) l) (one (b .n)) (Grevlex (b .n)) (cellOf (b .p) h t) (cursor c)
 
-pub filling-none : {b : Basis} {l : Irreducibles} {t : Tables} {c : Cursors} → 0 < b .p → t .cells ≡ replicate 4096 0 → c .at ≡ replicate 4 0 → Filling b l t c
+pub filling-none : {b : Basis} {l : Irreducibles} {t : Tables} {c : Cursors} → 0 < b .p → NoRows (t .cells) → c .at ≡ replicate 4 0 → Filling b l t c
 filling-none {b} {l} {t} {c} o e f = record {
-  size = ap length e ∙ length-replicate {A = ℕ} 4096 0;
+  size = rows-length e;
   cursors = ap length f ∙ length-replicate {A = ℕ} 4 0;
-  below = record { cell = λ q. omega (arith, o, ap (λ (a : List ℕ). getD a q 0) e ∙ zeros-at 4096 q 0) };
+  below = record { cell = λ q. omega (arith, o, ap (λ (a : List ℕ). getD a q 0) e ∙ zeros-at most-cells q 0) };
   progress = λ h. progress-none (modulo (b .p) h) (b .n) (linesOf b h) (listed (b .n) l) (one (b .n)) (Grevlex (b .n)) (cellOf (b .p) h t) (cursor c)
       (λ i u. ap (λ (a : List ℕ). getD a i 0) f ∙ zeros-at 4 i 0);
 }

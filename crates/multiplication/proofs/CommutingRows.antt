@@ -10,9 +10,8 @@ use Rattle.residue.specs.Field.{modulo}
 use Rattle.tabtext.specs.Sizes.{most-standard}
 use Rattle.groebner.proofs.MultiplicationRows.{RowsCommute}
 use Rattle.reduction.specs.Generators.{residue}
-use Rattle.multiplication.specs.Rows.{coordinate, RowOf, coordinatesOf, cellOf, Multiplied, CommuteAt}
+use Rattle.multiplication.specs.Rows.{coordinate, RowOf, coordinatesOf, cellOf, Multiplied, CommuteAt, Tables}
 use Rattle.multiplication.specs.declared.coordinates.Coordinates.{Coordinates}
-use Rattle.multiplication.specs.declared.coordinates.Tables.{Tables}
 use Rattle.multiplication.proofs.NaturalSums.{residue-injective}
 use Rattle.multiplication.proofs.RowSums.{multiply-row}
 

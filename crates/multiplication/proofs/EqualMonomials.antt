@@ -1,6 +1,6 @@
 -- Monomials of the code that are equal as rows.
 --   variable-fits     an exponent of x_i·m fits where that of m has room
---   product-row, quotient-row   the product of the code holds the product of the rows; the quotient
+--   quotient-row      the quotient of the code holds the quotient of the rows
 --   variable-stored   a store of 1 into the exponents of 1 makes a variable
 use mathlib.Core.Path.{_≡_, sym, _∙_, ap, ap₂}
 use mathlib.Core.Logic.{by-cases}
@@ -10,7 +10,7 @@ use native.Mathlib.Omega.{arith}
 use lib.ListN.{length, getD, set}
 use lib.Seq.{getD-set-same, getD-set-other}
 use Rattle.monomial.specs.Sizes.{most-variables, most-entry}
-use Rattle.monomial.specs.Rows.{Row, one, exponent, product, quotient}
+use Rattle.monomial.specs.Rows.{Row, one, exponent, quotient}
 use Rattle.monomial.specs.Represented.{row, monomial, exponents}
 use Rattle.monomial.specs.declared.Exponent.{Exponent}
 use Rattle.monomial.specs.declared.Monomial.{Monomial}
@@ -41,9 +41,6 @@ variable-stored i h {m} e n l k = row-extensional n (λ j q. exponent-row n j (s
 
 pub variable-fits : (n i j : ℕ) {x : ℕ} → i < n → x < most-entry → exponent n (variable n i) j + x ≤ most-entry
 variable-fits n i j l h = by-cases (ℕ-discrete j i) (λ p. rw p (omega (arith, exponent-power n i 1 l))) (λ p. omega (arith, exponent-power-other n i 1 j p))
-
-pub product-row : (n : ℕ) (a b u w : Row n) {r : Monomial} → a ≡ u → b ≡ w → r ≡ monomial n (product n a b) → row n r ≡ product n u w
-product-row n a b u w p q e = ap (row n) e ∙ row-monomial n _ ∙ ap₂ (product n) p q
 
 pub quotient-row : (n : ℕ) (a b u w : Row n) {r : Monomial} → a ≡ u → b ≡ w → r ≡ monomial n (quotient n a b) → row n r ≡ quotient n u w
 quotient-row n a b u w p q e = ap (row n) e ∙ row-monomial n _ ∙ ap₂ (quotient n) p q

@@ -3,7 +3,7 @@
 --   acceptance          the answer of `accept`, by those of `fill` and `commute`
 --   square-acceptance   the answer yes where there are as many lines as variables
 use mathlib.Core.Path.{_≡_, _∙_, subst}
-use mathlib.Core.Bool.{true}
+use mathlib.Core.Bool.{Bool, true}
 use mathlib.Core.Logic.{_↔_, Iff·trans, Iff·symm}
 use Prim.Native.Nat.{ℕ, _≤_, _<_}
 use native.Mathlib.Omega.{arith}
@@ -21,16 +21,14 @@ use Rattle.groebner.proofs.Instance.{ground, criterion}
 use Rattle.groebner.proofs.MultiplicationRows.{RowsCommute, Filled, rows-commute-iff}
 use Rattle.groebner.proofs.PowerLeads.{square-groebner}
 use Rattle.groebner.proofs.RisingLists.{lists-once}
-use Rattle.basis.specs.declared.Basis.{Basis}
+use Rattle.basis.specs.Held.{Basis}
 use Rattle.reduction.specs.HeldLines.{linesOf}
 use Rattle.reduction.specs.Sound.{Sound}
 use Rattle.reduction.specs.declared.irreducible.Irreducibles.{Irreducibles}
 use Rattle.reduction.proofs.LineElements.{lines-length}
-use Rattle.multiplication.specs.Rows.{AllBelow, cellOf}
+use Rattle.multiplication.specs.Rows.{AllBelow, cellOf, Tables}
 use Rattle.multiplication.specs.Listed.{listed, ListsIrreducibles}
 use Rattle.multiplication.specs.Acceptance.{Acceptance}
-use Rattle.multiplication.specs.declared.accept.Accepted.{Accepted}
-use Rattle.multiplication.specs.declared.coordinates.Tables.{Tables}
 use Rattle.multiplication.proofs.RowRules.{listed-length}
 
 -- The rows of the products are filled in the tables t.
@@ -51,11 +49,11 @@ module _ (b : Basis) (sound : Sound b) (l : Irreducibles) (irreducibles : ListsI
         (lists-once (grevlex-order (b .n)) (λ m. ¬ Reducible (rows (b .n)) (linesOf b h) m) (listed (b .n) l) (irreducibles .lists h)) (λ i u s v. filled i u s (omega (arith, size))))
 
   module _ (lines : (h : 1 < b .p) → Lines (modulo (b .p) h) (Grevlex (b .n)) (linesOf b h)) (clear : (h : 1 < b .p) → Clear (modulo (b .p) h) (rows (b .n)) (linesOf b h))
-      (r : Accepted) (below : AllBelow (b .p) (r .tables)) (filled : (h : 1 < b .p) → AllFilled b h l (r .tables)) where
+      (r : Bool) (t : Tables) (below : AllBelow (b .p) t) (filled : (h : 1 < b .p) → AllFilled b h l t) where
     low : (h : 1 < b .p) → Low (Grevlex (b .n)) (linesOf b h)
     low h g q = lines h .falling g q .0
 
-    answered : ((h : 1 < b .p) → (r .groebner ≡ true) ↔ Groebner (modulo (b .p) h) (rows (b .n)) (Grevlex (b .n)) (linesOf b h)) → Acceptance b l r
+    answered : ((h : 1 < b .p) → (r ≡ true) ↔ Groebner (modulo (b .p) h) (rows (b .n)) (Grevlex (b .n)) (linesOf b h)) → Acceptance b l r t
     answered groebner = record {
       groebner = groebner;
       buchberger = λ h. Iff·trans (groebner h) (Iff·symm (criterion (b .p) (prime-at b sound h) (b .n) (linesOf b h) (lines h)));
@@ -63,10 +61,10 @@ module _ (b : Basis) (sound : Sound b) (l : Irreducibles) (irreducibles : ListsI
       filled = filled;
     }
 
-    pub acceptance : ((h : 1 < b .p) → (r .groebner ≡ true) ↔ RowsCommute (modulo (b .p) h) (b .n) (l .count) (cellOf (b .p) h (r .tables))) → Acceptance b l r
-    acceptance test = answered (λ h. Iff·trans (test h) (rows-decide h (low h) (clear h) (r .tables) (filled h)))
+    pub acceptance : ((h : 1 < b .p) → (r ≡ true) ↔ RowsCommute (modulo (b .p) h) (b .n) (l .count) (cellOf (b .p) h t)) → Acceptance b l r t
+    acceptance test = answered (λ h. Iff·trans (test h) (rows-decide h (low h) (clear h) t (filled h)))
 
-    pub square-acceptance : ((h : 1 < b .p) → ZeroDimensional (b .n) (linesOf b h)) → b .lines ≤ length (b .generators) → b .lines ≡ b .n → r .groebner ≡ true → Acceptance b l r
+    pub square-acceptance : ((h : 1 < b .p) → ZeroDimensional (b .n) (linesOf b h)) → b .lines ≤ length (b .generators) → b .lines ≡ b .n → r ≡ true → Acceptance b l r t
     square-acceptance dimension held square e = answered (λ h. (
       λ _. square-groebner (modulo (b .p) h) (b .n) (linesOf b h) (dimension h) (clear h) (lines-length b h held ∙ square) (ground (b .p) (prime-at b sound h) (b .n)) (grevlex-order (b .n)) (low h),
       λ _. e,

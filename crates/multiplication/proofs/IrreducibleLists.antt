@@ -26,7 +26,7 @@ use Rattle.groebner.proofs.RisingLists.{ListsRising, lists-once}
 use Rattle.groebner.proofs.Next.{next, next-lex, variables-ranking}
 use Rattle.groebner.proofs.IrreducibleList.{irreducibles, Counts, irreducibles-of-lines}
 use Rattle.tabtext.specs.Sizes.{most-standard}
-use Rattle.basis.specs.declared.Basis.{Basis}
+use Rattle.basis.specs.Held.{Basis}
 use Rattle.reduction.specs.HeldLines.{linesOf}
 use Rattle.reduction.specs.Leads.{rowsOf, LeadsOf, multiple, CountIs}
 use Rattle.reduction.specs.Sound.{Sound}

@@ -1,17 +1,21 @@
--- Digits: a number is determined by them, and the one that counts most decides which number is smaller.
+-- Digits: the one that counts most decides which number is smaller.
 --   weight-up        a later digit counts no less
 --   digits-below     digits below the base are less than what the next one counts
 --   digit-less       the last digit decides, and at equal ones the others
---   digits-equal     equal numbers have equal digits
---   Keying           the loop of `key`: the first i digits are taken
+--   total f c        the sum of the first c digits
+--   total-most       it is at most c times the largest digit
+--   digits-most      the number is at most this sum times what the next digit counts
+--   digits-sum       digits added make the sum of the numbers
+--   Keying           the loop of `rank`: the first i digits are taken
 --   keying-start, keying-room, keying-next
-use mathlib.Core.Path.{_≡_, refl, _∙_, ap, ap₂}
+use mathlib.Core.Path.{_≡_, refl, ap, ap₂}
 use mathlib.Core.Logic.{_↔_, _⊎_, inl, inr, by-cases}
 use Prim.Native.Nat.{ℕ, zero, suc, _+_, _*_, _≤_, _<_}
 use native.Mathlib.Decide.{decLe, decLt}
 use native.Mathlib.Nat.{mul-le-mul-left, mul-suc}
 use native.Mathlib.Omega.{arith}
-use Rattle.multiplication.specs.Keys.{base, weight, digits}
+use Rattle.monomial.specs.Sizes.{most-entry}
+use Rattle.multiplication.specs.Ranks.{base, weight, digits}
 
 pub weight-up : (c d : ℕ) → c ≤ d → weight c ≤ weight d
 unfolding weight
@@ -40,48 +44,53 @@ digit-less w x y u v h k = (to, from)
     from (inl l) = less-digit w x y u v h l
     from (inr (e, l)) = omega (arith, at e)
 
-pub digits-equal : (f g : ℕ → ℕ) (c : ℕ) → ((i : ℕ) → i < c → f i < base) → ((i : ℕ) → i < c → g i < base) → digits f c ≡ digits g c → (i : ℕ) → i < c → f i ≡ g i
+-- The sum of the digits f 0, .., f (c - 1).
+unfoldable pub total : (ℕ → ℕ) → ℕ → ℕ
+total f zero = 0
+total f (suc c) = total f c + f c
+
+pub total-most : (f : ℕ → ℕ) (c : ℕ) → ((i : ℕ) → i < c → f i < base) → total f c ≤ c * most-entry
+unfolding total
+total-most f zero h = omega arith
+total-most f (suc c) h = omega (arith, total-most f c (λ i l. h i (omega arith)), h c (omega arith))
+
+pub digits-most : (f : ℕ → ℕ) (c n : ℕ) → c ≤ n → digits f c ≤ total f c * weight n
+unfolding digits total
+digits-most f zero n h = omega arith
+digits-most f (suc c) n h = omega (arith, digits-most f c n (omega arith), mul-le-mul-left (f c) (weight-up c n (omega arith)))
+
+pub digits-sum : (f g h : ℕ → ℕ) (c : ℕ) → ((i : ℕ) → h i ≡ f i + g i) → digits h c ≡ digits f c + digits g c
 unfolding digits
-digits-equal f g zero s t e i h = absurd (omega arith)
-digits-equal f g (suc c) s t e i h = by-cases (decLt i c) (λ l. digits-equal f g c below-f below-g rest i l) (λ l. let q : i ≡ c = omega arith in rw q last)
-  where
-    below-f : (i : ℕ) → i < c → f i < base
-    below-f i l = s i (omega arith)
+digits-sum f g h zero e = refl
+digits-sum f g h (suc c) e = omega (arith, digits-sum f g h c e, ap (_*_ (weight c)) (e c))
 
-    below-g : (i : ℕ) → i < c → g i < base
-    below-g i l = t i (omega arith)
-
-    last : f c ≡ g c
-    last = by-cases (decLt (f c) (g c)) (λ l. absurd (omega (arith, less-digit (weight c) (digits f c) (digits g c) (f c) (g c) (digits-below f c below-f) l)))
-        (λ n. by-cases (decLt (g c) (f c)) (λ l. absurd (omega (arith, less-digit (weight c) (digits g c) (digits f c) (g c) (f c) (digits-below g c below-g) l))) (λ m. omega arith))
-
-    rest : digits f c ≡ digits g c
-    rest = omega (arith, e, ap (_*_ (weight c)) last)
-
--- The first i digits are taken: k is their number, and w is what the next one counts.
-pub record Keying (f : ℕ → ℕ) (n k w i : ℕ) : Type 0 where
+-- The first i digits are taken: d is their sum, k is their number, and w is what the next one counts.
+pub record Keying (f : ℕ → ℕ) (n d k w i : ℕ) : Type 0 where
   pub within : i ≤ n
+  pub sum : d ≡ total f i
   pub number : k ≡ digits f i
   pub counts : w ≡ weight i
   pub digit : (j : ℕ) → j < i → f j < base
 
-pub keying-start : (f : ℕ → ℕ) (n : ℕ) → Keying f n 0 1 0
-unfolding weight digits
-keying-start f n = record { within = omega arith; number = refl; counts = refl; digit = λ j h. absurd (omega arith) }
+pub keying-start : (f : ℕ → ℕ) (n : ℕ) → Keying f n 0 0 1 0
+unfolding weight digits total
+keying-start f n = record { within = omega arith; sum = refl; number = refl; counts = refl; digit = λ j h. absurd (omega arith) }
 
-module _ {f : ℕ → ℕ} {n k w i e : ℕ} (so-far : Keying f n k w i) (more : i < n) (is : e ≡ f i) (small : e < base) where
-  pub keying-next : Keying f n (k + w * e) (w * base) (suc i)
-  unfolding weight digits
+module _ {f : ℕ → ℕ} {n d k w i e : ℕ} (so-far : Keying f n d k w i) (more : i < n) (is : e ≡ f i) (small : e < base) where
+  pub keying-next : Keying f n (d + e) (k + w * e) (w * base) (suc i)
+  unfolding weight digits total
   keying-next = record {
     within = omega arith;
+    sum = ap₂ _+_ (so-far .sum) is;
     number = ap₂ _+_ (so-far .number) (ap₂ _*_ (so-far .counts) is);
     counts = omega (arith, so-far .counts);
     digit = λ j h. by-cases (decLt j i) (so-far .digit j) (λ l. let q : j ≡ i = omega arith in rw q (omega arith));
   }
 
   -- Nothing is larger than what the digit after the last counts.
-  pub keying-room : (k + w * e < weight n) × (w * base ≤ weight n)
+  pub keying-room : (d + e ≤ n * most-entry) × (k + w * e < weight n) × (w * base ≤ weight n)
   keying-room = (
+    omega (arith, keying-next .sum, total-most f (suc i) (keying-next .digit)),
     omega (arith, keying-next .number, digits-below f (suc i) (keying-next .digit), weight-up (suc i) n (omega arith)),
     omega (arith, keying-next .counts, weight-up (suc i) n (omega arith)),
   )

@@ -8,16 +8,15 @@
 --   RowFilling     the rows of the products x_i·B_s, filled in rising order
 --   EqualMonomials monomials of the code that are equal as rows
 --   KeyDigits      numbers and their digits
---   KeyPlaces      keys of monomials, and their places
---   KeyOrder       degrees and keys decide grevlex
+--   RankOrder      the order of ranks is grevlex
+--   RankPlaces     ranks and their places
+--   RankSearch     the loop of `next_place`
+--   RankQuotients  the ranks of products with a variable and of quotients by one
 --   Sought         the loop of `place_of`
---   LeadSought     the answer of `line_of`
 --   TailTerms      the tail of a line of the code, term by term
 --   Passing        the test of `passes`, and the loop of `variable_through`
 --   RowRules       the three rules for the row of x_i·B_s, by the answers of the code
---   LeastPlace     the search for the place with the least value
 --   RisingPlaces   the places of a rising list
---   AboveAll       the test of `above`
 --   Selecting      the smallest elements of a list, in rising order
 --   Sorting        the loop of `by_grevlex`
 --   SortedLists    what a sorted list has of the list that it was made of
@@ -36,17 +35,16 @@ pub mod CommutingRows
 pub mod RowFilling
 pub mod EqualMonomials
 pub mod KeyDigits
-pub mod KeyPlaces
-pub mod KeyOrder
+pub mod RankOrder
+pub mod RankPlaces
+pub mod RankSearch
+pub mod RankQuotients
 pub mod Sought
-pub mod LeadSought
 pub mod TailTerms
 pub mod TailRows
 pub mod Passing
 pub mod RowRules
-pub mod LeastPlace
 pub mod RisingPlaces
-pub mod AboveAll
 pub mod Selecting
 pub mod Sorting
 pub mod SortedLists

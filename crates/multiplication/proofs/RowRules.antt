@@ -11,8 +11,9 @@
 --   row-product          x_j divides B_s, and x_i·B_s / x_j is reducible
 --   comes-through        where x_i·B_s is neither listed nor a leading monomial, it comes through such an x_j
 --   row-made             the row that the code makes is one by the rules
+--   row-led              so is minus the tail of the line that leads with x_i·B_s
 use mathlib.Core.Path.{_≡_, sym, _∙_, ap, subst}
-use mathlib.Core.Bool.{Bool-discrete, true, false}
+use mathlib.Core.Bool.{Bool-discrete, true}
 use mathlib.Core.List.{List, []}
 use mathlib.Core.Logic.{by-cases, Dec·of-iff}
 use Prim.Native.Nat.{ℕ, _≤_, _<_}
@@ -35,25 +36,23 @@ use Rattle.groebner.proofs.Variables.{variable, take-off}
 use Rattle.groebner.proofs.MultiplicationRows.{multiply}
 use Rattle.tabtext.specs.Sizes.{most-standard}
 use Rattle.tabtext.specs.Printed.{termsIn}
-use Rattle.basis.specs.declared.Basis.{Basis}
+use Rattle.basis.specs.Held.{Basis}
 use Rattle.reduction.specs.Generators.{residue, generator}
 use Rattle.reduction.specs.HeldLines.{linesOf}
 use Rattle.reduction.specs.Leads.{rowsOf, LeadsOf}
 use Rattle.reduction.specs.Sound.{Sound, generatorAt}
 use Rattle.reduction.specs.declared.leads.Leads.{Leads}
-use Rattle.multiplication.specs.Rows.{coordinate, indicator, RowOf, coordinatesOf, cellOf, Multiplied}
+use Rattle.multiplication.specs.Rows.{coordinate, indicator, RowOf, coordinatesOf, cellOf, Multiplied, Tables}
 use Rattle.multiplication.specs.Listed.{listed, listedAt, Place, TailRow, ListsIrreducibles, Passes}
 use Rattle.multiplication.specs.declared.coordinates.Coordinates.{Coordinates}
-use Rattle.multiplication.specs.declared.coordinates.Tables.{Tables}
 use Rattle.reduction.specs.declared.irreducible.Irreducibles.{Irreducibles}
 use Rattle.reduction.proofs.ArrayRows.{rows-length}
 use Rattle.reduction.proofs.LineElements.{lines-length, line-at}
 use Rattle.multiplication.proofs.UnitRows.{indicator-same, indicator-other}
 use Rattle.multiplication.proofs.NaturalSums.{residue-zero, residue-one}
 use Rattle.multiplication.proofs.RowSums.{multiply-row}
-use Rattle.multiplication.specs.declared.fill.LinePlace.{LinePlace}
-use Rattle.multiplication.specs.Rules.{NewRow, RowFor, LineOf, Unlisted, Through, MadeBy, MadeRow}
-use Rattle.multiplication.specs.Rules.MadeBy.{by-unit, by-tail, by-product}
+use Rattle.multiplication.specs.Rules.{NewRow, RowFor, Unlisted, Through, MadeBy, MadeRow}
+use Rattle.multiplication.specs.Rules.MadeBy.{by-unit, by-product}
 use Rattle.multiplication.specs.Rules.NewRow.{new-unit, new-tail, new-product}
 
 module _ (b : Basis) (l : Irreducibles) (irreducibles : ListsIrreducibles b l) (full : l .count ≤ length (l .monomials)) (h : 1 < b .p) where
@@ -121,18 +120,18 @@ module _ (b : Basis) (l : Irreducibles) (irreducibles : ListsIrreducibles b l) (
       unfolding line
       line-first g u = ap (λ (L : List (Row n)). getD L g (one n)) (are .1 h) ∙ List·getD-map (λ (f : Line (ZMod (b .p)) (Row n)). f .0) G g (one n, []) ∙ ap (λ (f : Line (ZMod (b .p)) (Row n)). f .0) (line-at b h g u)
 
-      module _ {r : LinePlace} (place : LineOf n leads x r) where
-        pub row-tail : r .found ≡ true → {w : Coordinates} → TailRow (b .p) n (generatorAt b (r .at)) l w → RuleFor w
+      module _ {k : ℕ} (place : Place n (rowsOf n (leads .count) (leads .monomials)) (leads .count) x k) where
+        pub row-tail : k < leads .count → {w : Coordinates} → TailRow (b .p) n (generatorAt b k) l w → RuleFor w
         unfolding line
-        row-tail e t = let u : r .at < b .lines = omega (arith, place .found e .0, are .0) in
-            new-tail (line (r .at)) (line-in (r .at) u) (sym (place .found e .1) ∙ line-first (r .at) u) (λ k v. t .coefficients h k (omega (arith, listed-length)))
+        row-tail e t = let u : k < b .lines = omega (arith, are .0) in
+            new-tail (line k) (line-in k u) (sym (place .found e) ∙ line-first k u) (λ k v. t .coefficients h k (omega (arith, listed-length)))
 
-        pub no-lead : r .found ≡ false → (f : Line (ZMod (b .p)) (Row n)) → f ∈ G → ¬ (x ≡ f .0)
+        pub no-lead : leads .count ≤ k → (f : Line (ZMod (b .p)) (Row n)) → f ∈ G → ¬ (x ≡ f .0)
         unfolding line
         no-lead e f p q =
-            let (k, v, d) = place-of (one n, []) p in
-            let u : k < b .lines = omega (arith, v, lines-length b h lines) in
-            place .none e k (omega (arith, are .0)) (line-first k u ∙ ap (λ (f : Line (ZMod (b .p)) (Row n)). f .0) (sym (line-at b h k u) ∙ d) ∙ sym q)
+            let (j, v, d) = place-of (one n, []) p in
+            let u : j < b .lines = omega (arith, v, lines-length b h lines) in
+            place .first j (omega (arith, are .0)) (line-first j u ∙ ap (λ (f : Line (ZMod (b .p)) (Row n)). f .0) (sym (line-at b h j u) ∙ d) ∙ sym q)
 
     pub passes-some : i < n → s < l .count → Reducible (rows n) G x → ((f : Line (ZMod (b .p)) (Row n)) → f ∈ G → ¬ (x ≡ f .0)) → (j : ℕ) × (j < n) × Passes n l (at s) i j
     unfolding rows
@@ -174,21 +173,23 @@ module _ (b : Basis) (l : Irreducibles) (irreducibles : ListsIrreducibles b l) (
 -- The row that the code makes for x_i·B_s, by the place of the line that leads with it.
 module _ (b : Basis) (sound : Sound b) (l : Irreducibles) (irreducibles : ListsIrreducibles b l) (full : l .count ≤ length (l .monomials)) (lines : b .lines ≤ length (b .generators))
     (leads : Leads) (are : LeadsOf b (leads .count) (leads .monomials)) (tables : Tables) (i s : ℕ) (hi : i < b .n) (hs : s < l .count)
-    {r : LinePlace} (place : LineOf (b .n) leads (product (b .n) (variable (b .n) i) (listedAt (b .n) l s)) r) where
+    {k : ℕ} (place : Place (b .n) (rowsOf (b .n) (leads .count) (leads .monomials)) (leads .count) (product (b .n) (variable (b .n) i) (listedAt (b .n) l s)) k) where
   above-one : 1 < b .p
   above-one = sound .modulus .prime .above-one
 
-  pub comes-through : r .found ≡ false → Unlisted (b .n) l i s → Through (b .n) l i s
+  pub comes-through : leads .count ≤ k → Unlisted (b .n) l i s → Through (b .n) l i s
   comes-through e out = record {
     some = passes-some b l irreducibles full above-one (cellOf (b .p) above-one tables) i s hi hs (reducible-outside b l irreducibles full above-one _ out)
         (no-lead b l irreducibles full above-one (cellOf (b .p) above-one tables) i s lines leads are place e);
     inside = λ j passes k at. divisor-listed b l irreducibles full above-one i s hs j passes k at;
   }
 
-  made-rule : (h : 1 < b .p) {w : Coordinates} → MadeBy (b .p) (b .n) (r .found) (generatorAt b (r .at)) l tables i s w → RuleFor b l irreducibles full h (cellOf (b .p) h tables) i s w
+  made-rule : (h : 1 < b .p) {w : Coordinates} → MadeBy (b .p) (b .n) l tables i s w → RuleFor b l irreducibles full h (cellOf (b .p) h tables) i s w
   made-rule h (by-unit k u e c) = row-unit b l irreducibles full h (cellOf (b .p) h tables) i s k u e _ c
-  made-rule h (by-tail e t) = row-tail b l irreducibles full h (cellOf (b .p) h tables) i s lines leads are place e t
-  made-rule h (by-product e q) = row-product b l irreducibles full h i s hs (q .by) (q .passes) (q .at) (q .place) (q .within) (irreducibles .few) (q .is) (q .multiplied)
+  made-rule h (by-product q) = row-product b l irreducibles full h i s hs (q .by) (q .passes) (q .at) (q .place) (q .within) (irreducibles .few) (q .is) (q .multiplied)
 
-  pub row-made : {w : Coordinates} → MadeRow (b .p) (b .n) (r .found) (generatorAt b (r .at)) l tables i s w → RowFor b l tables i s w
+  pub row-made : {w : Coordinates} → MadeRow (b .p) (b .n) l tables i s w → RowFor b l tables i s w
   row-made m = record { below = m .below; rule = λ h. made-rule h (m .made) }
+
+  pub row-led : k < leads .count → {w : Coordinates} → TailRow (b .p) (b .n) (generatorAt b k) l w → RowFor b l tables i s w
+  row-led e t = record { below = t .below; rule = λ h. row-tail b l irreducibles full h (cellOf (b .p) h tables) i s lines leads are place e t }

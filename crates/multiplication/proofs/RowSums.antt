@@ -19,9 +19,8 @@ use Rattle.groebner.proofs.DotProducts.{dot-on}
 use Rattle.groebner.proofs.MultiplicationRows.{multiply}
 use Rattle.tabtext.specs.Sizes.{most-standard}
 use Rattle.reduction.specs.Generators.{residue}
-use Rattle.multiplication.specs.Rows.{coordinate, rowStart, cellAt, Below, AllBelow, AddedMultiple, Cut, RowOf, coordinatesOf, cellOf, Multiplied}
+use Rattle.multiplication.specs.Rows.{coordinate, rowStart, cellAt, Below, AllBelow, AddedMultiple, Cut, RowOf, coordinatesOf, cellOf, Multiplied, Tables}
 use Rattle.multiplication.specs.declared.coordinates.Coordinates.{Coordinates}
-use Rattle.multiplication.specs.declared.coordinates.Tables.{Tables}
 use Rattle.multiplication.proofs.NaturalSums.{total, total-more, total-none, residue-total, residue-mod}
 
 pub record Summed (p : ℕ) (t : Tables) (i : ℕ) (w a : Coordinates) (r : ℕ) : Type 0 where

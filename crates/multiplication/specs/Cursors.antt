@@ -2,24 +2,24 @@
 --   cursor c i            the number of the rows of x_i that are filled
 --   Listing n l           a list of at most 32 monomials in at most 4 variables, whose exponents have room for one more
 --   nextProduct n l c i   the next product of x_i
---   FirstProducts n l next   the products x_i·B_0 are held
---   Nexts n l c next      the next products are held
+--   ProductRank ranks count x s r   r is the rank of x_i·B_s, where x is that of x_i
+--   FirstRanks            the ranks of the products x_i·B_0 are held
+--   Nexts n l c next      the ranks of the next products are held
 --   Best n l c best j     of the variables before x_j, `best` has the smallest next product; it is n where none of them has one
-use Prim.Native.Nat.{ℕ, _≤_, _<_}
+use Prim.Native.Nat.{ℕ, _+_, _≤_, _<_}
 use mathlib.Core.Path.{_≡_}
-use lib.ListN.{getD}
+use mathlib.Core.List.{List}
+use lib.ListN.{length, getD}
 use Rattle.monomial.specs.Sizes.{most-variables, most-entry}
 use Rattle.monomial.specs.Rows.{Row, exponent, product}
 use Rattle.monomial.specs.Ordering.{Grevlex}
-use Rattle.monomial.specs.Represented.{row}
 use Rattle.groebner.proofs.Variables.{variable}
 use Rattle.tabtext.specs.Sizes.{most-standard}
 use Rattle.multiplication.specs.Least.{Least}
+use Rattle.multiplication.specs.Ranks.{rankOf}
 use Rattle.multiplication.specs.Listed.{listedAt}
 use Rattle.reduction.specs.declared.irreducible.Irreducibles.{Irreducibles}
-use Rattle.reduction.proofs.ArrayRows.{blank}
 use Rattle.multiplication.specs.declared.fill.Cursors.{Cursors}
-use Rattle.multiplication.specs.declared.fill.Products.{Products}
 
 -- The number of the rows of x_i that are filled.
 abbrev pub cursor : Cursors → ℕ → ℕ
@@ -35,13 +35,21 @@ pub record Listing (n : ℕ) (l : Irreducibles) : Type 0 where
 abbrev pub nextProduct : (n : ℕ) → Irreducibles → Cursors → ℕ → Row n
 nextProduct n l c i = product n (variable n i) (listedAt n l (cursor c i))
 
--- The first products are held.
-pub record FirstProducts (n : ℕ) (l : Irreducibles) (next : Products) : Type 0 where
-  pub first : (i : ℕ) → i < n → 0 < l .count → row n (getD (next .m) i blank) ≡ product n (variable n i) (listedAt n l 0)
+-- r is the rank of x_i·B_s, where x is that of x_i, or 0 where the list has no B_s.
+pub record ProductRank (ranks : List ℕ) (count x s r : ℕ) : Type 0 where
+  pub listed : s < count → r ≡ x + getD ranks s 0
+  pub none : count ≤ s → r ≡ 0
 
--- The next products are held.
-pub record Nexts (n : ℕ) (l : Irreducibles) (c : Cursors) (next : Products) : Type 0 where
-  pub held : (i : ℕ) → i < n → cursor c i < l .count → row n (getD (next .m) i blank) ≡ nextProduct n l c i
+-- The ranks of the products x_i·B_0 are held.
+pub record FirstRanks (ranks variables : List ℕ) (count n : ℕ) (next : List ℕ) : Type 0 where
+  pub size : length next ≡ most-variables
+  pub first : (i : ℕ) → i < n → ProductRank ranks count (getD variables i 0) 0 (getD next i 0)
+
+-- The ranks of the next products are held, and 0 where there is none.
+pub record Nexts (n : ℕ) (l : Irreducibles) (c : Cursors) (next : List ℕ) : Type 0 where
+  pub size : length next ≡ most-variables
+  pub held : (i : ℕ) → i < n → cursor c i < l .count → getD next i 0 ≡ rankOf n (nextProduct n l c i)
+  pub none : (i : ℕ) → i < n → l .count ≤ cursor c i → getD next i 0 ≡ 0
 
 -- Of the variables before x_j, `best` has the smallest next product; it is n where none of them has one.
 abbrev pub Best : (n : ℕ) → Irreducibles → Cursors → (best j : ℕ) → Type 0

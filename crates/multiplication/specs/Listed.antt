@@ -24,7 +24,7 @@ use Rattle.groebner.proofs.RisingLists.{ListsRising}
 use Rattle.tabtext.specs.Sizes.{most-standard}
 use Rattle.tabtext.specs.Printed.{termsIn}
 use Rattle.tabtext.specs.declared.print.Generator.{Generator}
-use Rattle.basis.specs.declared.Basis.{Basis}
+use Rattle.basis.specs.Held.{Basis}
 use Rattle.reduction.specs.Generators.{generator}
 use Rattle.reduction.specs.HeldLines.{linesOf}
 use Rattle.multiplication.specs.Rows.{coordinate, Below, coordinatesOf}

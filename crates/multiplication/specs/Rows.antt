@@ -1,7 +1,9 @@
 -- Coordinates in the irreducible monomials, and the rows of the products x_i·B_s, as functions.
 --   coordinate w k         coefficient k, as a number
 --   indicator j k          1 where j is k, and 0 elsewhere
+--   Tables                 the coefficients of all rows
 --   most-cells             the number of the coefficients of all rows
+--   NoRows cells           all coefficients of all rows are 0
 --   rowStart i s           the place of the first coefficient of the row of x_i·B_s
 --   cellAt t i s k         coefficient k of that row, as a number
 --   tablesOf cells         the tables that hold these coefficients
@@ -19,7 +21,7 @@ use Prim.Native.Nat.{ℕ, _+_, _*_, _%_, _<_, _≤_}
 use mathlib.Core.Path.{_≡_}
 use mathlib.Core.Bool.{true, false}
 use mathlib.Core.List.{List}
-use lib.ListN.{getD}
+use lib.ListN.{getD, replicate}
 use lib.Dec.{eqb}
 use Rattle.residue.specs.Field.{ZMod, modulo}
 use Rattle.monomial.specs.Sizes.{most-variables}
@@ -27,7 +29,10 @@ use Rattle.tabtext.specs.Sizes.{most-standard}
 use Rattle.groebner.proofs.MultiplicationRows.{multiply}
 use Rattle.reduction.specs.Generators.{residue}
 use Rattle.multiplication.specs.declared.coordinates.Coordinates.{Coordinates}
-use Rattle.multiplication.specs.declared.coordinates.Tables.{Tables}
+
+-- The coefficients of all rows.
+pub record Tables : Type 0 where
+  pub cells : List ℕ
 
 -- Coefficient k.
 abbrev pub coordinate : Coordinates → ℕ → ℕ
@@ -40,6 +45,10 @@ indicator j k = elim (eqb j k) [ true ↦ 1 | false ↦ 0 ]
 -- The number of the coefficients of all rows.
 abbrev pub most-cells : ℕ
 most-cells = most-variables * most-standard * most-standard
+
+-- All coefficients of all rows are 0.
+abbrev pub NoRows : List ℕ → Type 0
+NoRows cells = cells ≡ replicate most-cells 0
 
 -- The place of the first coefficient of the row of x_i·B_s.
 abbrev pub rowStart : ℕ → ℕ → ℕ

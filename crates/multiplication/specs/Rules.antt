@@ -2,16 +2,14 @@
 --   multiple-at    x_i·B_s
 --   NewRow         w is the row of x_i·B_s by one of the rules: x_i·B_s is irreducible, or a leading monomial, or comes through B_t with B_s = x_j·B_t
 --   RowFor         the coordinates r are such a row, over the rows of the tables
---   LeadKeys n leads keys the keys of the leading monomials
---   LineOf n leads m r    r is the place of the first line with the leading monomial m
+--   PassesBy              an exponent is not 0, and a difference is none of the ranks
 --   Unlisted n l i s      x_i·B_s is not in the list
 --   Through n l i s       for some x_j that divides B_s, x_i·B_s / x_j is not in the list, and B_s / x_j is in it
 --   ProductRow            r is x_j times the row of x_i·B_s / x_j, for such an x_j
 --   MadeBy                how the row of x_i·B_s is made
---   MadeRow               the row that the code makes for x_i·B_s, by the line that leads with it or by the list
-use Prim.Native.Nat.{ℕ, _<_}
+--   MadeRow               the row that the code makes for x_i·B_s, if it is no leading monomial
+use Prim.Native.Nat.{ℕ, _-_, _<_}
 use mathlib.Core.Path.{_≡_}
-use mathlib.Core.Bool.{Bool, true, false}
 use mathlib.Core.List.{List}
 use lib.ListN.{length, getD}
 use Rattle.residue.specs.Field.{Arithmetic, modulo}
@@ -21,18 +19,11 @@ use Rattle.groebner.specs.Polynomials.{_∈_, δ, coef}
 use Rattle.groebner.specs.Lines.{Line, Reducible}
 use Rattle.groebner.proofs.Variables.{variable}
 use Rattle.groebner.proofs.MultiplicationRows.{multiply}
-use Rattle.tabtext.specs.Sizes.{most-lines}
-use Rattle.tabtext.specs.declared.print.Generator.{Generator}
-use Rattle.basis.specs.declared.Basis.{Basis}
+use Rattle.basis.specs.Held.{Basis}
 use Rattle.reduction.specs.HeldLines.{linesOf}
-use Rattle.reduction.specs.Leads.{rowsOf}
-use Rattle.reduction.specs.declared.leads.Leads.{Leads}
-use Rattle.multiplication.specs.Rows.{coordinate, indicator, Below, coordinatesOf, cellOf, RowOf, Multiplied}
-use Rattle.multiplication.specs.Keys.{KeysOf}
-use Rattle.multiplication.specs.Listed.{listed, listedAt, Place, TailRow, Passes}
-use Rattle.multiplication.specs.declared.fill.LinePlace.{LinePlace}
+use Rattle.multiplication.specs.Rows.{coordinate, indicator, Below, coordinatesOf, cellOf, RowOf, Multiplied, Tables}
+use Rattle.multiplication.specs.Listed.{listed, listedAt, Place, Passes}
 use Rattle.multiplication.specs.declared.coordinates.Coordinates.{Coordinates}
-use Rattle.multiplication.specs.declared.coordinates.Tables.{Tables}
 use Rattle.reduction.specs.declared.irreducible.Irreducibles.{Irreducibles}
 
 module _ {F : Type 0} (R : Arithmetic F) (n : ℕ) (G : List (Line F (Row n))) (B : List (Row n)) (d : Row n) where
@@ -52,15 +43,10 @@ pub record RowFor (b : Basis) (l : Irreducibles) (t : Tables) (i s : ℕ) (r : C
   pub below : Below (b .p) r
   pub rule : (h : 1 < b .p) → NewRow (modulo (b .p) h) (b .n) (linesOf b h) (listed (b .n) l) (one (b .n)) (cellOf (b .p) h t) i s (coordinatesOf (b .p) h r)
 
--- The keys of the leading monomials.
-abbrev pub LeadKeys : ℕ → Leads → List ℕ → Type 0
-LeadKeys n leads = KeysOf n (rowsOf n (leads .count) (leads .monomials)) (leads .count)
-
--- r is the place of the first line with the leading monomial m.
-pub record LineOf (n : ℕ) (leads : Leads) (m : Row n) (r : LinePlace) : Type 0 where
-  pub within : r .at < most-lines
-  pub found : r .found ≡ true → (r .at < leads .count) × (getD (rowsOf n (leads .count) (leads .monomials)) (r .at) (one n) ≡ m)
-  pub none : r .found ≡ false → (k : ℕ) → k < leads .count → ¬ (getD (rowsOf n (leads .count) (leads .monomials)) k (one n) ≡ m)
+-- An exponent e is not 0, and w less x is none of the first ranks.
+pub record PassesBy (ranks : List ℕ) (count e w x : ℕ) : Type 0 where
+  pub divisor : 0 < e
+  pub outside : (k : ℕ) → k < count → ¬ (getD ranks k 0 ≡ w - x)
 
 module _ (n : ℕ) (l : Irreducibles) (i s : ℕ) where
   -- x_i·B_s is not in the list.
@@ -84,14 +70,13 @@ module _ (p n : ℕ) where
     pub is : RowOf t i at row
     pub multiplied : Multiplied p t by row (l .count) r
 
-  module _ (leads : Bool) (g : Generator) (l : Irreducibles) (t : Tables) (i s : ℕ) (r : Coordinates) where
-    -- How the row of x_i·B_s is made.
+  module _ (l : Irreducibles) (t : Tables) (i s : ℕ) (r : Coordinates) where
+    -- How the row of x_i·B_s is made, if it is no leading monomial.
     pub data MadeBy : Type 0 where
       by-unit : (k : ℕ) → k < l .count → listedAt n l k ≡ product n (variable n i) (listedAt n l s) → ((j : ℕ) → coordinate r j ≡ indicator j k) → MadeBy
-      by-tail : leads ≡ true → TailRow p n g l r → MadeBy
-      by-product : leads ≡ false → ProductRow l t i s r → MadeBy
+      by-product : ProductRow l t i s r → MadeBy
 
-    -- The row that the code makes for x_i·B_s, by the line g that leads with it or by the list.
+    -- The row that the code makes for x_i·B_s, if it is no leading monomial.
     pub record MadeRow : Type 0 where
       pub below : Below p r
       pub made : MadeBy

@@ -13,17 +13,13 @@ use residue::word::remainder;
 use residue::word::word_over;
 use tabtext::sizes::MAX_STANDARD;
 
-// The coefficients of all rows: one row for each variable and each irreducible monomial.
+// The coefficients of all rows: one row for each variable and each irreducible monomial. Coefficient k of the row of x_i·B_s stands at
+// place (i * MAX_STANDARD + s) * MAX_STANDARD + k of the lent cells.
 pub const MAX_CELLS: usize = MAX_VARIABLES * MAX_STANDARD * MAX_STANDARD;
 
 // Coefficient k is that of the irreducible monomial B_k.
 pub struct Coordinates {
     pub c: [Residue; MAX_STANDARD],
-}
-
-// Coefficient k of the row of x_i·B_s at place (i * MAX_STANDARD + s) * MAX_STANDARD + k.
-pub struct Tables {
-    pub cells: [u16; MAX_CELLS],
 }
 
 impl Coordinates {
@@ -92,7 +88,14 @@ pub fn put_row(cells: &mut [u16], i: usize, s: usize, row: Coordinates)
 }
 
 // r + c times the coefficients from a place on, for the quotient `over` of the largest u16 by p.
-fn add_multiple(mut r: Coordinates, c: u16, cells: &[u16], at: usize, over: u16, p: u16) -> Coordinates
+fn add_multiple(
+    mut r: Coordinates,
+    c: u16,
+    cells: &[u16],
+    at: usize,
+    over: u16,
+    p: u16,
+) -> Coordinates
     requires { ⌜
         (at + most-standard ≤ length (now cells)) × (0 < p) × (p ≤ largest-modulus) × (over ≡ (word - 1) / p)
         × (c < p) × Below p r × AllBelow p (tablesOf (now cells))

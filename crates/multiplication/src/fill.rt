@@ -1,48 +1,47 @@
 // The rows of the products x_i·B_s, filled in rising grevlex order of these products, B the irreducible monomials.
 ghost use mathlib.Core.Path.{_≡_};
-ghost use mathlib.Core.Bool.{true, false};
+ghost use mathlib.Core.Bool.{true};
 ghost use mathlib.Core.Logic.{_↔_};
-ghost use Prim.Native.Nat.{ℕ, _+_, _≤_, _<_};
-ghost use lib.ListN.{length};
+ghost use Prim.Native.Nat.{ℕ, _≤_, _<_};
+ghost use lib.ListN.{length, getD};
 ghost use Rattle.residue.specs.Prime.{«largest-modulus»};
 ghost use Rattle.residue.specs.Field.{modulo};
-ghost use Rattle.monomial.specs.Sizes.{«most-variables», «most-entry»};
+ghost use Rattle.monomial.specs.Sizes.{«most-variables»};
 ghost use Rattle.monomial.specs.Rows.{one, exponent, product};
 ghost use Rattle.monomial.specs.Ordering.{Grevlex};
 ghost use Rattle.monomial.specs.Represented.{row};
 ghost use Rattle.groebner.proofs.Division.{Low};
 ghost use Rattle.groebner.proofs.MultiplicationRows.{Filled};
 ghost use Rattle.groebner.proofs.Variables.{variable as «x»};
-ghost use Rattle.tabtext.specs.Sizes.{«most-standard», «most-lines»};
+ghost use Rattle.tabtext.specs.Sizes.{«most-standard»};
+ghost use Rattle.store.specs.Stored.{Arrays};
+ghost use Rattle.basis.specs.Held.{held};
 ghost use Rattle.reduction.specs.HeldLines.{linesOf};
 ghost use Rattle.reduction.specs.Sound.{SoundLine, Sound};
-ghost use Rattle.multiplication.specs.Rows.{«most-cells», Below, tablesOf, AllBelow, cellOf};
-ghost use Rattle.multiplication.specs.Keys.{KeysOf};
-ghost use Rattle.multiplication.specs.Rules.{LeadKeys, LineOf, Unlisted, Through, ProductRow, MadeRow};
-ghost use Rattle.multiplication.specs.Cursors.{cursor, Listing, nextProduct, Nexts, FirstProducts, Best};
-ghost use Rattle.multiplication.specs.Listed.{listed, listedAt, Distinct, ListsIrreducibles, Subtracted, TailRow, Passes};
+ghost use Rattle.multiplication.specs.Rows.{«most-cells», NoRows, Below, tablesOf, AllBelow, cellOf};
+ghost use Rattle.multiplication.specs.Ranks.{rankOf, «above-ranks», RanksOf, VariableRanks, Bounded};
+ghost use Rattle.multiplication.specs.Rules.{PassesBy, Unlisted, Through, ProductRow, MadeRow};
+ghost use Rattle.multiplication.specs.Cursors.{Listing, ProductRank, FirstRanks};
+ghost use Rattle.multiplication.specs.Listed.{listed, listedAt, Distinct, ListsIrreducibles, Subtracted, TailRow};
 use crate::coordinates::Coordinates;
-use crate::coordinates::MAX_CELLS;
-use crate::coordinates::Tables;
 use crate::coordinates::apply;
 use crate::coordinates::put_row;
 use crate::coordinates::row_of;
-use crate::keys::key;
-use crate::keys::key_place;
-use crate::keys::put_keys;
-use crate::keys::put_lead_keys;
 use crate::place::listed_at;
-use crate::place::over_variable;
-use crate::place::place_in;
-use crate::place::smaller;
-use crate::place::times_variable;
-use crate::place::variable_divides;
-use basis::Basis;
+use crate::ranks::next_place;
+use crate::ranks::put_lead_ranks;
+use crate::ranks::put_ranks;
+use crate::ranks::put_variable_ranks;
+use crate::ranks::rank;
+use crate::ranks::rank_place;
+use basis::Shape;
+use monomial::Exponent;
 use monomial::MAX_VARIABLES;
 use monomial::Monomial;
 use reduction::irreducible::Irreducibles;
 use reduction::leads::Leads;
 use residue::Residue;
+use store::line_at;
 use tabtext::print::Generator;
 use tabtext::sizes::MAX_LINES;
 use tabtext::sizes::MAX_STANDARD;
@@ -60,8 +59,8 @@ fn subtract_at(mut r: Coordinates, c: Residue, at: usize, count: usize, p: u16) 
 }
 
 // Minus the tail of a line: its terms but the first, from the last on.
-fn tail_row(keys: &[u64], g: Generator, l: Irreducibles, n: usize, p: u16) -> Coordinates
-    requires { ⌜ KeysOf n (listed n l) (l .count) (now keys) × SoundLine p n g × Distinct n l × (n ≤ most-variables) × (l .count ≤ most-standard) × (p ≤ largest-modulus) ⌝ }
+fn tail_row(ranks: &[u64], g: Generator, l: Irreducibles, n: usize, p: u16) -> Coordinates
+    requires { ⌜ RanksOf n (listed n l) (l .count) (now ranks) × SoundLine p n g × Distinct n l × (n ≤ most-variables) × (l .count ≤ most-standard) × (p ≤ largest-modulus) ⌝ }
     ensures { λ r. ⌜ TailRow p n g l r ⌝ }
 {
     let mut r = Coordinates::zero();
@@ -70,57 +69,43 @@ fn tail_row(keys: &[u64], g: Generator, l: Irreducibles, n: usize, p: u16) -> Co
         k -= 1;
         let m = g.monomials[k];
         let c = g.coefficients[k];
-        r = subtract_at(r, c, place_in(keys, l, m, n), l.count, p);
+        let at = rank_place(ranks, l.count, rank(m, n));
+        r = subtract_at(r, c, at, l.count, p);
     }
     r
 }
 
-// The place of a line, or 0 where there is none.
-pub struct LinePlace {
-    pub found: bool,
-    pub at: usize,
-}
-
-// The first line with the leading monomial m, by the keys of these.
-fn line_of(keys: &[u64], leads: Leads, m: Monomial, n: usize) -> LinePlace
-    requires { ⌜ (n ≤ most-variables) × (leads .count ≤ most-lines) × LeadKeys n leads (now keys) ⌝ }
-    ensures { λ r. ⌜ LineOf n leads (row n m) r ⌝ }
+// Whether an exponent is not 0, and w less the rank x is no rank of the list.
+fn passes(ranks: &[u64], count: usize, e: Exponent, w: u64, x: u64) -> bool
+    requires { ⌜ (count ≤ length (now ranks)) × (0 < e .0 → x ≤ w) ⌝ }
+    ensures { λ r. ⌜ (r ≡ true) ↔ PassesBy (now (ranks .entry)) count (e .0) w x ⌝ }
 {
-    let k = key_place(keys, leads.count, key(m, n));
-    if k < leads.count {
-        LinePlace { found: true, at: k }
-    } else {
-        LinePlace {
-            found: false,
-            at: 0,
-        }
+    if e.0 == 0 {
+        return false;
     }
+    rank_place(ranks, count, w - x) == count
 }
 
-// Whether x_j divides m and x_i·m / x_j is not in the list.
-fn passes(keys: &[u64], l: Irreducibles, m: Monomial, i: usize, j: usize, n: usize) -> bool
-    requires { ⌜ KeysOf n (listed n l) (l .count) (now keys) × (n ≤ most-variables) × (i < n) × (j < n) × ((k : ℕ) → k < n → exponent n (row n m) k < most-entry) ⌝ }
-    ensures { λ r. ⌜ (r ≡ true) ↔ Passes n l (row n m) i j ⌝ }
-{
-    if variable_divides(m, j, n) {
-        let q = times_variable(over_variable(m, j, n), i, n);
-        place_in(keys, l, q, n) == l.count
-    } else {
-        false
-    }
-}
-
-// The first such x_j, of which there is one.
-fn variable_through(keys: &[u64], l: Irreducibles, m: Monomial, i: usize, n: usize) -> usize
+// The first x_j that divides m with w less its rank no rank of the list, of which there is one.
+fn variable_through(
+    ranks: &[u64],
+    variables: &[u64],
+    count: usize,
+    m: Monomial,
+    w: u64,
+    n: usize,
+) -> usize
     requires { ⌜
-        KeysOf n (listed n l) (l .count) (now keys) × (n ≤ most-variables) × (i < n) × ((k : ℕ) → k < n → exponent n (row n m) k < most-entry)
-        × ((j : ℕ) × (j < n) × Passes n l (row n m) i j)
+        (count ≤ length (now ranks)) × (n ≤ length (now variables)) × (n ≤ most-variables)
+        × ((j : ℕ) → j < n → 0 < exponent n (row n m) j → getD (now variables) j 0 ≤ w)
+        × ((j : ℕ) × (j < n) × PassesBy (now ranks) count (exponent n (row n m) j) w (getD (now variables) j 0))
         ⌝ }
-    ensures { λ r. ⌜ (r < n) × Passes n l (row n m) i r ⌝ }
+    ensures { λ r. ⌜ (r < n) × PassesBy (now (ranks .entry)) count (exponent n (row n m) r) w (getD (now (variables .entry)) r 0) ⌝ }
 {
     let mut j: usize = 0;
     while j < n {
-        if passes(keys, l, m, i, j, n) {
+        let e = m.e[j];
+        if passes(ranks, count, e, w, variables[j]) {
             return j;
         }
         j += 1;
@@ -128,56 +113,54 @@ fn variable_through(keys: &[u64], l: Irreducibles, m: Monomial, i: usize, n: usi
     j
 }
 
-// The row of x_i·B_s, which is neither listed nor a leading monomial: with B_s = x_j·c and x_i·c reducible it is x_j times the row of x_i·c.
+// The row of x_i·B_s of rank w, which is neither listed nor a leading monomial: with B_s = x_j·c and x_i·c reducible it is x_j times the row of x_i·c.
 fn product_row(
     cells: &[u16],
-    keys: &[u64],
+    ranks: &[u64],
+    variables: &[u64],
     l: Irreducibles,
+    w: u64,
     i: usize,
     s: usize,
     n: usize,
     p: u16,
 ) -> Coordinates
     requires { ⌜
-        (length (now cells) ≡ most-cells) × AllBelow p (tablesOf (now cells)) × KeysOf n (listed n l) (l .count) (now keys) × Listing n l × (0 < p) × (p ≤ largest-modulus) × (i < n) × (s < l .count)
-        × Through n l i s
+        (length (now cells) ≡ most-cells) × AllBelow p (tablesOf (now cells)) × RanksOf n (listed n l) (l .count) (now ranks) × VariableRanks n (now variables) × Listing n l
+        × (0 < p) × (p ≤ largest-modulus) × (i < n) × (s < l .count) × (w ≡ rankOf n (product n (x n i) (listedAt n l s))) × Through n l i s
         ⌝ }
     ensures { λ r. ⌜ ProductRow p n l (tablesOf (now (cells .entry))) i s r ⌝ }
 {
     let m = listed_at(l, s);
-    let j = variable_through(keys, l, m, i, n);
-    let at = place_in(keys, l, over_variable(m, j, n), n);
+    let j = variable_through(ranks, variables, l.count, m, w, n);
+    let at = rank_place(ranks, l.count, ranks[s] - variables[j]);
     apply(cells, j, row_of(cells, i, at), l.count, p)
 }
 
-// The row of m = x_i·B_s: minus the tail of the line g if that leads with it, a unit row if it is listed, and otherwise a product.
+// The row of x_i·B_s of rank w, which is no leading monomial: a unit row if it is listed, and otherwise a product.
 fn row_for(
     cells: &[u16],
-    keys: &[u64],
-    leads: bool,
-    g: Generator,
-    m: Monomial,
+    ranks: &[u64],
+    variables: &[u64],
     l: Irreducibles,
+    w: u64,
     i: usize,
     s: usize,
     n: usize,
     p: u16,
 ) -> Coordinates
     requires { ⌜
-        (length (now cells) ≡ most-cells) × AllBelow p (tablesOf (now cells)) × KeysOf n (listed n l) (l .count) (now keys) × Listing n l × Distinct n l × (1 < p) × (p ≤ largest-modulus)
-        × (i < n) × (s < l .count) × (row n m ≡ product n (x n i) (listedAt n l s))
-        × (leads ≡ true → SoundLine p n g) × (leads ≡ false → Unlisted n l i s → Through n l i s)
+        (length (now cells) ≡ most-cells) × AllBelow p (tablesOf (now cells)) × RanksOf n (listed n l) (l .count) (now ranks) × VariableRanks n (now variables) × Listing n l
+        × (1 < p) × (p ≤ largest-modulus) × (i < n) × (s < l .count) × (w ≡ rankOf n (product n (x n i) (listedAt n l s)))
+        × (Unlisted n l i s → Through n l i s)
         ⌝ }
-    ensures { λ r. ⌜ MadeRow p n leads g l (tablesOf (now (cells .entry))) i s r ⌝ }
+    ensures { λ r. ⌜ MadeRow p n l (tablesOf (now (cells .entry))) i s r ⌝ }
 {
-    if leads {
-        return tail_row(keys, g, l, n, p);
-    }
-    let k = place_in(keys, l, m, n);
+    let k = rank_place(ranks, l.count, w);
     if k < l.count {
         return Coordinates::unit(k);
     }
-    product_row(cells, keys, l, i, s, n, p)
+    product_row(cells, ranks, variables, l, w, i, s, n, p)
 }
 
 // For each variable x_i the number of its rows that are filled.
@@ -185,108 +168,76 @@ pub struct Cursors {
     pub at: [usize; MAX_VARIABLES],
 }
 
-// For each variable x_i its next product, that with its first row that is not filled.
-pub struct Products {
-    pub m: [Monomial; MAX_VARIABLES],
+// The rank of x_i·B_s, where x is that of x_i, or 0 where the list has no B_s.
+fn product_rank(ranks: &[u64], count: usize, x: u64, s: usize) -> u64
+    requires { ⌜ (count ≤ length (now ranks)) × Bounded (now ranks) count × (x < above-ranks) ⌝ }
+    ensures { λ r. ⌜ ProductRank (now (ranks .entry)) count x s r ⌝ }
+{
+    if s < count { x + ranks[s] } else { 0 }
 }
 
-// x_i·B_s, or 1 where the list has no B_s.
-fn product_at(l: Irreducibles, i: usize, s: usize, n: usize) -> Monomial
-    requires { ⌜ Listing n l × (i < n) ⌝ }
-    ensures { λ r. ⌜ (s < l .count → row n r ≡ product n (x n i) (listedAt n l s)) ⌝ }
+// The ranks of the products x_i·B_0.
+fn put_first_ranks(next: &mut [u64], ranks: &[u64], variables: &[u64], count: usize, n: usize)
+    requires { ⌜
+        (length (now next) ≡ most-variables) × (n ≤ most-variables) × (n ≤ length (now variables)) × Bounded (now variables) n × (count ≤ length (now ranks)) × Bounded (now ranks) count
+        ⌝ }
+    ensures { λ _. ⌜ FirstRanks (now (ranks .entry)) (now (variables .entry)) count n (now (next .exit)) ⌝ }
 {
-    if s < l.count {
-        times_variable(listed_at(l, s), i, n)
-    } else {
-        Monomial::one()
-    }
-}
-
-// The products x_i·B_0.
-fn first_products(l: Irreducibles, n: usize) -> Products
-    requires { ⌜ Listing n l ⌝ }
-    ensures { λ r. ⌜ FirstProducts n l r ⌝ }
-{
-    let mut r = Products {
-        m: [Monomial::one(); MAX_VARIABLES],
-    };
     let mut i: usize = 0;
     while i < n {
-        r.m[i] = product_at(l, i, 0, n);
+        let x = variables[i];
+        next[i] = product_rank(ranks, count, x, 0);
         i += 1;
     }
-    r
 }
 
-// Whether the next product of x_i is smaller than that of x_j.
-fn comes_first(next: Products, l: Irreducibles, c: Cursors, i: usize, j: usize, n: usize) -> bool
-    requires { ⌜ (n ≤ most-variables) × Nexts n l c next × (i < n) × (j < n) × (cursor c i < l .count) × (cursor c j < l .count) ⌝ }
-    ensures { λ r. ⌜ (r ≡ true) ↔ Grevlex n (nextProduct n l c i) (nextProduct n l c j) ⌝ }
+// All rows, in rising order of the products: the next products of the n variables are merged by their ranks.
+pub fn fill(
+    cells: &mut [u16],
+    terms: &[usize],
+    coefficients: &[u16],
+    exponents: &[u8],
+    b: Shape,
+    l: Irreducibles,
+)
+    requires { ⌜
+        NoRows (now cells) × Arrays (now terms) (now coefficients) (now exponents) × Sound (held b (now terms) (now coefficients) (now exponents)) × ListsIrreducibles (held b (now terms) (now coefficients) (now exponents)) l
+        × ((h : 1 < b .p) → Low (Grevlex (b .n)) (linesOf (held b (now terms) (now coefficients) (now exponents)) h))
+        ⌝ }
+    ensures { λ _. ⌜
+        (length (now (cells .exit)) ≡ most-cells) × AllBelow (b .p) (tablesOf (now (cells .exit)))
+        × ((h : 1 < b .p) (i : ℕ) → i < b .n → (s : ℕ) → s < l .count
+        → Filled (modulo (b .p) h) (b .n) (linesOf (held b (now (terms .entry)) (now (coefficients .entry)) (now (exponents .entry))) h) (listed (b .n) l) (one (b .n)) (cellOf (b .p) h (tablesOf (now (cells .exit)))) i s)
+        ⌝ }
 {
-    let a = next.m[i];
-    let b = next.m[j];
-    smaller(a, b, n)
-}
-
-// Of the best among the variables before x_j, or none, and x_j, the one with the smaller next product.
-fn better(next: Products, l: Irreducibles, c: Cursors, best: usize, j: usize, n: usize) -> usize
-    requires { ⌜ (n ≤ most-variables) × Nexts n l c next × (j < n) × Best n l c best j ⌝ }
-    ensures { λ r. ⌜ Best n l c r (j + 1) ⌝ }
-{
-    if l.count <= c.at[j] {
-        return best;
-    }
-    if n <= best {
-        return j;
-    }
-    if comes_first(next, l, c, j, best, n) {
-        j
-    } else {
-        best
-    }
-}
-
-// The variable with the smallest next product, or n where all rows are filled.
-fn smallest(next: Products, l: Irreducibles, c: Cursors, n: usize) -> usize
-    requires { ⌜ (n ≤ most-variables) × Nexts n l c next ⌝ }
-    ensures { λ r. ⌜ Best n l c r n ⌝ }
-{
-    let mut best = n;
-    let mut j: usize = 0;
-    while j < n {
-        best = better(next, l, c, best, j, n);
-        j += 1;
-    }
-    best
-}
-
-// All rows, in rising order of the products: the next products of the n variables are merged.
-pub fn fill(b: Basis, l: Irreducibles) -> Tables
-    requires { ⌜ Sound b × ListsIrreducibles b l × ((h : 1 < b .p) → Low (Grevlex (b .n)) (linesOf b h)) ⌝ }
-    ensures { λ r. ⌜ AllBelow (b .p) r × ((h : 1 < b .p) (i : ℕ) → i < b .n → (s : ℕ) → s < l .count → Filled (modulo (b .p) h) (b .n) (linesOf b h) (listed (b .n) l) (one (b .n)) (cellOf (b .p) h r) i s) ⌝ }
-{
-    let mut cells: [u16; MAX_CELLS] = [0; MAX_CELLS];
     let mut c = Cursors {
         at: [0; MAX_VARIABLES],
     };
-    let mut keys: [u64; MAX_STANDARD] = [0; MAX_STANDARD];
-    put_keys(&mut keys, l, b.n);
-    let leads = Leads::of(b);
-    let mut lead_keys: [u64; MAX_LINES] = [0; MAX_LINES];
-    put_lead_keys(&mut lead_keys, leads, b.n);
-    let mut next = first_products(l, b.n);
-    let mut i = smallest(next, l, c, b.n);
+    let mut ranks: [u64; MAX_STANDARD] = [0; MAX_STANDARD];
+    put_ranks(&mut ranks, l, b.n);
+    let leads = Leads::of(exponents, b.lines);
+    let mut lead_ranks: [u64; MAX_LINES] = [0; MAX_LINES];
+    put_lead_ranks(&mut lead_ranks, leads, b.n);
+    let mut variables: [u64; MAX_VARIABLES] = [0; MAX_VARIABLES];
+    put_variable_ranks(&mut variables, b.n);
+    let mut next: [u64; MAX_VARIABLES] = [0; MAX_VARIABLES];
+    put_first_ranks(&mut next, &ranks, &variables, l.count, b.n);
+    let mut i = next_place(&next, b.n, 1);
     while i < b.n {
         let s = c.at[i];
-        let m = next.m[i];
-        let found = line_of(&lead_keys, leads, m, b.n);
-        let k = found.at;
-        let g = b.generators[k];
-        let row = row_for(&cells, &keys, found.found, g, m, l, i, s, b.n, b.p);
-        put_row(&mut cells, i, s, row);
+        let w = next[i];
+        let k = rank_place(&lead_ranks, leads.count, w);
+        if k < leads.count {
+            let g = line_at(terms, coefficients, exponents, k);
+            let row = tail_row(&ranks, g, l, b.n, b.p);
+            put_row(&mut *cells, i, s, row);
+        } else {
+            let row = row_for(&*cells, &ranks, &variables, l, w, i, s, b.n, b.p);
+            put_row(&mut *cells, i, s, row);
+        }
         c.at[i] = s + 1;
-        next.m[i] = product_at(l, i, s + 1, b.n);
-        i = smallest(next, l, c, b.n);
+        let x = variables[i];
+        next[i] = product_rank(&ranks, l.count, x, s + 1);
+        i = next_place(&next, b.n, 1);
     }
-    Tables { cells }
 }

@@ -1,7 +1,7 @@
 // Multiplication rows: the products of the irreducible monomials with the variables, as coordinates (document 01, refusal 15).
 //
 //   coordinates   coordinates in the irreducible monomials, and what the rows of the products x_i·B_s make of them
-//   keys          monomials as numbers
+//   ranks         monomials as numbers, in grevlex order
 //   place         places of monomials in the list of the irreducible ones
 //   sort          this list in rising grevlex order
 //   fill          these rows, filled in rising order of the products
@@ -11,6 +11,6 @@ pub mod accept;
 pub mod commute;
 pub mod coordinates;
 pub mod fill;
-pub mod keys;
 pub mod place;
+pub mod ranks;
 pub mod sort;

@@ -20,7 +20,7 @@ use Rattle.tabtext.specs.Printed.{rowOf as numbersOf, termsOf, termsIn}
 use Rattle.tabtext.specs.declared.print.Generator.{Generator}
 use Rattle.basis.specs.Checks.{passed, asRow, Monic, Checked}
 use Rattle.basis.specs.Answers.{basisOf}
-use Rattle.basis.specs.declared.Basis.{Basis}
+use Rattle.basis.specs.Held.{Basis}
 use Rattle.basis.proofs.EachPlace.{each-take}
 use Rattle.basis.proofs.GoodLines.{GoodTerm, Falling, GoodLine}
 use Rattle.basis.proofs.Passes.{passes-iff}

@@ -23,7 +23,7 @@ use Rattle.groebner.specs.Polynomials.{_∈_}
 use Rattle.groebner.specs.Lines.{Line, polynomial}
 use Rattle.groebner.proofs.Lists.{in-map, of-map}
 use Rattle.tabtext.specs.declared.print.Generator.{Generator}
-use Rattle.basis.specs.declared.Basis.{Basis}
+use Rattle.basis.specs.Held.{Basis}
 use Rattle.reduction.specs.HeldLines.{linesOf}
 use Rattle.reduction.specs.Sound.{Sound, generatorAt, monomialAt}
 use Rattle.reduction.specs.Leads.{rowsOf, LeadsOf}

@@ -7,8 +7,8 @@
 --   RowsInTurn          the rows of the first monomials of an array, one after the other
 --   LineElements        the lines of a basis of the code, by their places
 --   LineLeads           their leading monomials
+--   HeldBasis           the lines of a basis that stand in arrays
 -- The loops:
---   LeadsOf             the leading monomials, stored in turn
 --   Multiples           the search for a monomial of an array that divides another one
 --   HeldRows            values of the code that hold a row of n exponents
 --   ChangedExponents    values of the code with one exponent changed
@@ -35,7 +35,7 @@ pub mod ArrayRows
 pub mod RowsInTurn
 pub mod LineElements
 pub mod LineLeads
-pub mod LeadsOf
+pub mod HeldBasis
 pub mod Multiples
 pub mod HeldRows
 pub mod ChangedExponents

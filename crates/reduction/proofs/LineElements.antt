@@ -29,7 +29,7 @@ use Rattle.tabtext.specs.Printed.{termsOf, termsIn}
 use Rattle.tabtext.specs.declared.print.Generator.{Generator}
 use Rattle.basis.specs.Checks.{asRow}
 use Rattle.basis.specs.Answers.{basisOf}
-use Rattle.basis.specs.declared.Basis.{Basis}
+use Rattle.basis.specs.Held.{Basis}
 use Rattle.reduction.specs.Generators.{generator, generators}
 use Rattle.reduction.specs.HeldLines.{linesOf}
 use Rattle.reduction.specs.Sound.{coefficientAt, monomialAt, generatorAt, SoundLine}

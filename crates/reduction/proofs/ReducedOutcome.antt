@@ -15,7 +15,7 @@ use Rattle.groebner.specs.Standard.{Lists}
 use Rattle.groebner.proofs.ZeroDimension.{zero-dimensional-iff}
 use Rattle.tabtext.specs.Sizes.{most-standard}
 use Rattle.basis.specs.Checks.{Judged, passed}
-use Rattle.basis.specs.declared.Basis.{Basis}
+use Rattle.basis.specs.Held.{Basis}
 use Rattle.reduction.specs.HeldLines.{linesOf}
 use Rattle.reduction.specs.Sound.{Sound}
 use Rattle.reduction.specs.Whole.{Large, Whole}

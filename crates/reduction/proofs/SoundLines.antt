@@ -25,7 +25,7 @@ use Rattle.groebner.proofs.Linear.{all-map}
 use Rattle.tabtext.specs.Text.{Term}
 use Rattle.tabtext.specs.Printed.{termsOf, termsIn}
 use Rattle.tabtext.specs.declared.print.Generator.{Generator}
-use Rattle.basis.specs.declared.Basis.{Basis}
+use Rattle.basis.specs.Held.{Basis}
 use Rattle.reduction.specs.Generators.{residue, generator}
 use Rattle.reduction.specs.HeldLines.{linesOf}
 use Rattle.reduction.specs.Sound.{coefficientAt, monomialAt, generatorAt, SoundLine, Sound}

@@ -6,7 +6,7 @@ use Rattle.residue.specs.Field.{ZMod}
 use Rattle.monomial.specs.Rows.{Row}
 use Rattle.groebner.specs.Lines.{Line}
 use Rattle.basis.specs.Answers.{basisOf}
-use Rattle.basis.specs.declared.Basis.{Basis}
+use Rattle.basis.specs.Held.{Basis}
 use Rattle.reduction.specs.Generators.{generators}
 
 -- The lines that a basis of the code holds.

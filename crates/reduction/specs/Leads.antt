@@ -1,30 +1,37 @@
 -- Lists of leading monomials, their multiples, and what is next in lex among the others.
 --   rowsOf n count ms        the first monomials of an array, as rows of n exponents
+--   LeadsIn es lines count ms    the first monomials of an array are the leading monomials of the lines of the arrays of a basis
 --   LeadsOf b count ms       the first monomials of an array are the leading monomials of a basis
 --   multiple n L m           whether a monomial of L divides m
 --   PowerIn n v L            a monomial of L is a power of variable v
 --   Powers n L               L has a power of each variable
 --   NextIs                   the next monomial in lex that is not excluded, or that there is none
 --   CountIs                  all monomials that are not excluded, in rising lex order, or that there are more than `most`
-use Prim.Native.Nat.{ℕ, _<_}
+use Prim.Native.Nat.{ℕ, _*_, _<_}
 use mathlib.Core.Path.{_≡_}
 use mathlib.Core.Bool.{Bool, true, false}
 use mathlib.Core.List.{List, [], _∷_, map}
 use mathlib.Core.Option.{none, some}
-use lib.ListN.{take}
+use lib.ListN.{getD, take}
 use Rattle.monomial.specs.Rows.{Row, divides, isPower}
 use Rattle.monomial.specs.Represented.{row}
 use Rattle.monomial.specs.declared.Monomial.{Monomial}
 use Rattle.groebner.specs.Polynomials.{_∈_}
 use Rattle.groebner.proofs.Next.{next}
 use Rattle.groebner.proofs.IrreducibleList.{irreducibles}
-use Rattle.basis.specs.declared.Basis.{Basis}
+use Rattle.tabtext.specs.Sizes.{most-terms}
+use Rattle.store.specs.Stored.{monomialIn}
+use Rattle.basis.specs.Held.{Basis}
 use Rattle.reduction.specs.HeldLines.{linesOf}
 
 -- The first monomials of an array.
 unfoldable pub rowsOf : (n : ℕ) → ℕ → List Monomial → List (Row n)
 unfolding row
 rowsOf n count ms = map (row n) (take count ms)
+
+-- The first monomials of an array are the leading monomials of the first lines that the array es of exponents has.
+abbrev pub LeadsIn : List ℕ → ℕ → ℕ → List Monomial → Type 0
+LeadsIn es lines count ms = (count ≡ lines) × ((k : ℕ) → k < lines → getD ms k (record { e = [] }) ≡ monomialIn es (k * most-terms))
 
 -- The first monomials of an array are the leading monomials of a basis, line by line.
 abbrev pub LeadsOf : Basis → ℕ → List Monomial → Type 0

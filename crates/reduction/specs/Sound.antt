@@ -15,7 +15,7 @@ use Rattle.monomial.specs.Represented.{row, monomial}
 use Rattle.monomial.specs.declared.Monomial.{Monomial}
 use Rattle.tabtext.specs.Sizes.{most-terms, most-lines}
 use Rattle.tabtext.specs.declared.print.Generator.{Generator}
-use Rattle.basis.specs.declared.Basis.{Basis}
+use Rattle.basis.specs.Held.{Basis}
 
 -- Term k of a line, from 0.
 unfoldable pub coefficientAt : Generator → ℕ → ℕ

@@ -8,14 +8,17 @@ ghost use Rattle.monomial.specs.Sizes.{«most-variables»};
 ghost use Rattle.monomial.specs.Ordering.{rows};
 ghost use Rattle.monomial.specs.Represented.{row};
 ghost use Rattle.tabtext.specs.Sizes.{«most-terms», «most-lines»};
+ghost use Rattle.store.specs.Stored.{Arrays};
+ghost use Rattle.basis.specs.Held.{held};
 ghost use Rattle.reduction.specs.HeldLines.{linesOf};
 ghost use Rattle.reduction.specs.Leads.{rowsOf, LeadsOf};
 ghost use Rattle.reduction.specs.Places.{DividesTerm, DividedByAnother};
 ghost use Rattle.reduction.specs.Sound.{Sound};
 ghost use Rattle.reduction.specs.Whole.{Divided, Smallest};
 use crate::leads::Leads;
-use basis::Basis;
+use basis::Shape;
 use monomial::Monomial;
+use store::line_at;
 use tabtext::print::Generator;
 
 // Whether d divides a monomial of the line.
@@ -49,13 +52,23 @@ fn divided_by_another(g: Generator, i: usize, leads: Leads, n: usize) -> bool
 }
 
 // The number of that line; 0 if there is none.
-pub fn first_divided(b: Basis, leads: Leads) -> usize
-    requires { ⌜ Sound b × LeadsOf b (leads .count) (leads .monomials) ⌝ }
-    ensures { λ r. ⌜ ((h : 1 < b .p) → Smallest (Divided (modulo (b .p) h) (rows (b .n)) (linesOf b h)) r) ⌝ }
+pub fn first_divided(
+    terms: &[usize],
+    coefficients: &[u16],
+    exponents: &[u8],
+    b: Shape,
+    leads: Leads,
+) -> usize
+    requires { ⌜
+        Arrays (now terms) (now coefficients) (now exponents) × Sound (held b (now terms) (now coefficients) (now exponents))
+        × LeadsOf (held b (now terms) (now coefficients) (now exponents)) (leads .count) (leads .monomials)
+        ⌝ }
+    ensures { λ r. ⌜ ((h : 1 < b .p) → Smallest (Divided (modulo (b .p) h) (rows (b .n)) (linesOf (held b (now (terms .entry)) (now (coefficients .entry)) (now (exponents .entry))) h)) r) ⌝ }
 {
     let mut i: usize = 0;
     while i < b.lines {
-        if divided_by_another(b.generators[i], i, leads, b.n) {
+        let g = line_at(terms, coefficients, exponents, i);
+        if divided_by_another(g, i, leads, b.n) {
             return i + 2;
         }
         i += 1;

@@ -1,16 +1,14 @@
 // Leading monomials, and the test for their multiples.
 ghost use mathlib.Core.Path.{_≡_};
-ghost use mathlib.Core.List.{map};
 ghost use Prim.Native.Nat.{suc, _≤_, _<_};
-ghost use lib.ListN.{set};
+ghost use lib.ListN.{length, set};
 ghost use Rattle.monomial.specs.Sizes.{«most-variables»};
 ghost use Rattle.monomial.specs.Represented.{row};
 ghost use Rattle.tabtext.specs.Sizes.{«most-lines»};
-ghost use Rattle.reduction.specs.HeldLines.{linesOf};
-ghost use Rattle.reduction.specs.Sound.{Sound};
-ghost use Rattle.reduction.specs.Leads.{rowsOf, multiple};
-use basis::Basis;
+ghost use Rattle.store.specs.Stored.{«all-exponents»};
+ghost use Rattle.reduction.specs.Leads.{rowsOf, LeadsIn, multiple};
 use monomial::Monomial;
+use store::lead_at;
 use tabtext::sizes::MAX_LINES;
 
 // The first of the array.
@@ -39,16 +37,15 @@ impl Leads {
         self
     }
 
-    // The leading monomials of a basis.
-    pub fn of(b: Basis) -> Leads
-        requires { ⌜ Sound b ⌝ }
-        ensures { λ r. ⌜ (r .count ≡ b .lines) × ((h : 1 < b .p) → rowsOf (b .n) (r .count) (r .monomials) ≡ map (λ g. g .0) (linesOf b h)) ⌝ }
+    // The leading monomials of the lines that the array of exponents has.
+    pub fn of(exponents: &[u8], lines: usize) -> Leads
+        requires { ⌜ (lines ≤ most-lines) × (length (now exponents) ≡ all-exponents) ⌝ }
+        ensures { λ r. ⌜ LeadsIn (now (exponents .entry)) lines (r .count) (r .monomials) ⌝ }
     {
         let mut l = Leads::none();
         let mut i: usize = 0;
-        while i < b.lines {
-            let g = b.generators[i];
-            l = l.push(g.monomials[0]);
+        while i < lines {
+            l = l.push(lead_at(exponents, i));
             i += 1;
         }
         l

@@ -11,7 +11,9 @@ slice-aggregate-first-failing : tie.Need-slice-aggregate-first-failing
 slice-aggregate-first-failing c = search needs
 
 first-failing-requires : tie.Need-first-failing-requires
-first-failing-requires c κs = (c .before .pre .0, c .before .pre .1, omega (arith, space-value, length-replicate {A = ℕ} 82251 0))
+first-failing-requires c κs =
+    let (arrays, sound, low) = c .before .before .before .before .pre in
+    (arrays, sound, low, omega (arith, space-value, length-replicate {A = ℕ} 82251 0))
 
 returns : tie.Need-returns
 returns c = search needs

@@ -6,15 +6,15 @@ use Rattle.convert.proofs.finish.Statement.{statement}
 use Rattle.convert.proofs.finish.Tie as tie
 
 output-width-requires : tie.Need-output-width-requires
-output-width-requires c κs = search needs
+output-width-requires c κs = let s = c .before .before .before .before in (s .pre .0, s .pre .1, s .pre .3, s .pre .4)
 
 returns : tie.Need-returns
 returns c h = finished-short _ _ (omega (arith, c .before .output-width .ensures h))
 
 put-output-requires : tie.Need-put-output-requires
 put-output-requires c κs =
-    let s = c .before .before .before .before in
-    (s .pre .0, s .pre .1 .prime .above-one, s .pre .2, s .pre .3, λ h. omega (arith, c .before .before .output-width .ensures h))
+    let s = c .before .before .before .before .before .before .before in
+    (s .pre .0, s .pre .1, s .pre .2 .prime .above-one, s .pre .3, s .pre .4, λ h. omega (arith, c .before .before .output-width .ensures h))
 
 same-length : tie.Need-same-length
 same-length c = search needs

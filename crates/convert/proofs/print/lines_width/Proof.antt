@@ -1,68 +1,69 @@
 -- `print::lines_width` meets its contract. The loop's invariant: the lines from place k on are left to count.
 use Prim.Native.Nat.{_+_, _*_, _-_, _≤_}
 use mathlib.Core.Path.{_≡_}
-use borrow.Author.Needs.{needs}
 use native.Mathlib.Omega.{arith}
+use denote.Ref.{now}
 use lib.ListN.{length}
 use Rattle.tabtext.specs.Sizes.{most-terms, most-lines}
-use Rattle.tabtext.proofs.Values.{length-mapped}
+use Rattle.fglm.specs.Lex.{LexBasis, lexIn}
 use Rattle.convert.specs.PolyLines.{polyLines}
 use Rattle.convert.proofs.LineSequence.{Counting, counting-start, counting-turn, counting-end}
-use Rattle.convert.proofs.LinePlaces.{polyLines-length, line-stands, line-held}
+use Rattle.convert.proofs.LinePlaces.{read-many, read-stands, read-held}
 use Rattle.convert.proofs.print.lines_width.Statement.{statement}
 use Rattle.convert.proofs.print.lines_width.Tie as tie
 
 abbrev Inv-loop : tie.InvT-loop
-Inv-loop n b w₀ k₀ w k =
-    (length (polyLines n b) ≡ b .lines) × (length (b .generators) ≡ most-lines) × (k ≤ b .lines) × Counting (polyLines n b) (5 + 31 * most-terms) w k
+Inv-loop terms coefficients exponents b n w₀ k₀ w k =
+    let lines = polyLines n (lexIn b terms coefficients exponents) in
+    (length lines ≡ b .lines) × (k ≤ b .lines) × Counting lines (5 + 31 * most-terms) w k
 
 abbrev μ-loop : tie.MeasureT-loop
-μ-loop n b w₀ k₀ w k = b .lines - k
+μ-loop terms coefficients exponents b n w₀ k₀ w k = b .lines - k
+
+-- The lex basis that is lent.
+abbrev lent : tie.Start Inv-loop μ-loop → LexBasis
+lent c = lexIn (c .args .b) (now (c .args .terms)) (now (c .args .coefficients)) (now (c .args .exponents))
 
 loop-holds : tie.Need-loop-holds Inv-loop μ-loop
 loop-holds c =
-    let s = c .args in
-    let l : length (s .t1 .generators) ≡ most-lines = search (length-mapped, needs) in
-    (polyLines-length (s .n) (s .t1) (omega arith), l, omega arith, counting-start _)
+    let s = c .before .before .before in
+    (read-many (s .args .b) _ _ _ (s .pre .1 .lines) (s .args .n), omega arith, counting-start _)
 
-mul-generator-width : tie.Need-mul-generator-width Inv-loop μ-loop
-mul-generator-width c = omega arith
-
-element-copy-out-generator-width : tie.Need-element-copy-out-generator-width Inv-loop μ-loop
-element-copy-out-generator-width c = omega arith
+line-at-requires : tie.Need-line-at-requires Inv-loop μ-loop
+line-at-requires c κs = let s = c .before .before .before .before .before .before in (omega (arith, s .pre .1 .lines), s .pre .0)
 
 generator-width-requires : tie.Need-generator-width-requires Inv-loop μ-loop
 generator-width-requires c κs =
-    let v = c .before .before in
-    let s = v .before in
-    (line-held (s .args .t1) (v .loop .k) _ (s .pre .0) (c .before .loop-test .taken) (omega arith), s .pre .1, s .pre .2)
+    let s = c .before .before .before .before .before .before .before in
+    (read-held (s .args .b) _ _ _ (s .pre .1 .lines) _ _ (c .line-at .ensures) (c .before .if1 .taken) (s .pre .1), s .pre .2, s .pre .3)
 
 -- A turn counts one line more.
 turn : (c : tie.After-generator-width Inv-loop μ-loop) →
-    let v = c .before .before .before in
-    let s = v .before .args in
-    Counting (polyLines (s .n) (s .t1)) (5 + 31 * most-terms) (v .loop .w + c .generator-width .result) (v .loop .k + 1)
+    let v = c .before .before .before .before in
+    let s = v .before .before .before .before in
+    Counting (polyLines (s .args .n) (lent s)) (5 + 31 * most-terms) (v .loop .w + c .generator-width .result) (v .loop .k + 1)
 turn c =
-    let v = c .before .before .before in
-    let s = v .before .args in
-    counting-turn (v .loop .inv .3) _ (line-stands (s .n) (s .t1) (v .loop .k) _ (c .before .before .loop-test .taken) (omega arith)) (c .generator-width .ensures .0) (omega arith)
+    let v = c .before .before .before .before in
+    let s = v .before .before .before .before in
+    counting-turn (v .loop .inv .2) _ (read-stands (s .args .b) _ _ _ (s .pre .1 .lines) _ _ (c .before .line-at .ensures) (c .before .before .if1 .taken) (s .args .n)) (c .generator-width .ensures .0) (omega arith)
 
 add-w : tie.Need-add-w Inv-loop μ-loop
-add-w c = omega (arith, turn c)
+add-w c = let s = c .before .before .before .before .before .before .before .before in omega (arith, turn c, s .pre .1 .lines)
 
 add-k : tie.Need-add-k Inv-loop μ-loop
-add-k c = omega arith
+add-k c = let s = c .before .before .before .before .before .before .before .before in omega (arith, s .pre .1 .lines)
 
 loop-less : tie.Need-loop-less Inv-loop μ-loop
 loop-less c = omega arith
 
 loop-again : tie.Need-loop-again Inv-loop μ-loop
-loop-again c =
-    let v = c .before .before .before .loop .inv in
-    (v .0, v .1, omega arith, turn c)
+loop-again c = (c .before .before .before .before .loop .inv .0, omega arith, turn c)
 
 returns : tie.Need-returns Inv-loop μ-loop
-returns c = (counting-end (c .before .loop .inv .3) (omega arith), omega arith)
+returns c =
+    let s = c .before .before .before .before .before .before in
+    let v = c .before .before .loop .inv in
+    (counting-end (v .2) (omega (arith, v .0, c .if1 .left)), omega (arith, s .pre .1 .lines, v))
 
 pub lines-width-spec : {M : Type 1} → statement M
 lines-width-spec =
@@ -71,8 +72,7 @@ lines-width-spec =
     Inv-loop
     μ-loop
     loop-holds
-    mul-generator-width
-    element-copy-out-generator-width
+    line-at-requires
     generator-width-requires
     add-w
     add-k

@@ -3,13 +3,16 @@ use Prim.Native.Nat.{ℕ, _<_}
 use mathlib.Core.Path.{_≡_, refl, ap}
 use mathlib.Core.List.{_++_}
 use borrow.Author.Needs.{needs}
+use denote.Ref.{now}
 use native.Mathlib.Omega.{arith}
 use lib.ListN.{length}
-use Rattle.tabtext.specs.Sizes.{most-lines, most-standard}
+use Rattle.tabtext.specs.Sizes.{most-standard}
 use Rattle.tabtext.specs.Text.{Bytes, bytes, header, text}
 use Rattle.tabtext.specs.Printed.{standardOf, printed, counted}
 use Rattle.tabtext.proofs.Values.{length-mapped}
 use Rattle.tabtext.proofs.Writing.{Left, left-all, left-less, left-last, left-room}
+use Rattle.store.proofs.Lines.{lines-length}
+use Rattle.fglm.specs.Lex.{LexBasis, lexIn}
 use Rattle.fglm.specs.Found as found
 use Rattle.convert.specs.PolyLines.{polyLines}
 use Rattle.convert.specs.Written.{written}
@@ -18,12 +21,16 @@ use Rattle.convert.proofs.OutputParts.{output, written-output}
 use Rattle.convert.proofs.print.put_output.Statement.{statement}
 use Rattle.convert.proofs.print.put_output.Tie as tie
 
+-- The lex basis that is lent.
+abbrev lent : tie.Start → LexBasis
+lent s = lexIn (s .args .b) (now (s .args .terms)) (now (s .args .coefficients)) (now (s .args .exponents))
+
 -- The lines of the output.
 abbrev basis-line : tie.Start → Bytes
 basis-line s = printed (header (bytes "lex") (s .args .p) (s .args .n))
 
 abbrev poly-lines : tie.Start → Bytes
-poly-lines s = text (polyLines (s .args .n) (s .args .b))
+poly-lines s = text (polyLines (s .args .n) (lent s))
 
 abbrev standard-line : tie.Start → Bytes
 standard-line s = printed (standardOf (s .args .n) (s .args .b .count) (s .args .b .standard))
@@ -36,24 +43,23 @@ end-line s = counted (bytes "end") (s .args .b .lines)
 
 -- The output is these lines.
 parts : (s : tie.Start) (h : 1 < s .args .p) →
-    let b = s .args .b in
+    let b = lent s in
     written (s .args .p) h (s .args .n) (found.linesOf (s .args .p) h (s .args .n) b) (found.standardOf (s .args .n) b) ≡ output (s .args .p) (s .args .n) b
 parts s h =
-    let w = s .pre .0 in
-    let g : length (s .args .b .generators) ≡ most-lines = search (length-mapped, needs) in
+    let w = s .pre .1 in
     let m : length (s .args .b .standard) ≡ most-standard = search (length-mapped, needs) in
-    written-output (s .args .p) h (s .args .n) (s .args .b) w (omega (arith, w .lines)) (omega (arith, w .count))
+    written-output (s .args .p) h (s .args .n) (lent s) w (omega (arith, w .lines, lines-length (now (s .args .terms)) (now (s .args .coefficients)) (now (s .args .exponents)))) (omega (arith, w .count))
 
 -- What is left of them.
 abbrev Rest : tie.Start → Bytes → Bytes → ℕ → Type 0
-Rest s rest now i = Left (s .args .out .now) 0 (output (s .args .p) (s .args .n) (s .args .b)) rest now i
+Rest s rest left i = Left (s .args .out .now) 0 (output (s .args .p) (s .args .n) (lent s)) rest left i
 
-all : (s : tie.Start) → Rest s (output (s .args .p) (s .args .n) (s .args .b)) (s .args .out .now) 0
-all s = left-all refl (omega (arith, s .pre .4 (s .pre .1), ap length (parts s (s .pre .1))))
+all : (s : tie.Start) → Rest s (output (s .args .p) (s .args .n) (lent s)) (s .args .out .now) 0
+all s = left-all refl (omega (arith, s .pre .5 (s .pre .2), ap length (parts s (s .pre .2))))
 
 -- The entry, from the place after each call.
 abbrev start-2 : tie.After-slice-known2 → tie.Start
-start-2 c = c .before .before .before .before .before .before .before
+start-2 c = c .before .before .before .before .before .before .before .before .before .before
 
 abbrev start-3 : tie.After-slice-known3 → tie.Start
 start-3 c = start-2 (c .before .before .before .before)
@@ -70,8 +76,8 @@ slice-aggregate-put-header c = search needs
 put-header-requires : tie.Need-put-header-requires
 unfolding bytes
 put-header-requires c κs =
-    let s = c .before .before .before .before in
-    (s .pre .3, left-room (basis-line s) (poly-lines s ++ (standard-line s ++ (points-line s ++ end-line s))) refl (all s))
+    let s = c .before .before .before .before .before .before .before in
+    (s .pre .4, left-room (basis-line s) (poly-lines s ++ (standard-line s ++ (points-line s ++ end-line s))) refl (all s))
 
 after-header : (c : tie.After-slice-known2) →
     let s = start-2 c in
@@ -83,7 +89,7 @@ after-header c = left-less (basis-line (start-2 c)) _ refl (all (start-2 c)) (c 
 put-lines-requires : tie.Need-put-lines-requires
 put-lines-requires c κs =
     let s = start-2 (c .before) in
-    (held-lines (s .pre .0), s .pre .2, s .pre .3, left-room (poly-lines s) (standard-line s ++ (points-line s ++ end-line s)) refl (after-header (c .before)))
+    (s .pre .0, held-lines (s .pre .1), s .pre .3, s .pre .4, left-room (poly-lines s) (standard-line s ++ (points-line s ++ end-line s)) refl (after-header (c .before)))
 
 after-lines : (c : tie.After-slice-known3) →
     let s = start-3 c in
@@ -94,7 +100,7 @@ after-lines c = left-less _ _ refl (after-header (c .before .before .before .bef
 put-standard-requires : tie.Need-put-standard-requires
 put-standard-requires c κs =
     let s = start-3 (c .before) in
-    (s .pre .0 .count, s .pre .2, s .pre .3, left-room (standard-line s) (points-line s ++ end-line s) refl (after-lines (c .before)))
+    (s .pre .1 .count, s .pre .3, s .pre .4, left-room (standard-line s) (points-line s ++ end-line s) refl (after-lines (c .before)))
 
 after-standard : (c : tie.After-slice-known4) →
     let s = start-4 c in
@@ -124,7 +130,7 @@ slice-aggregate-put-count-2 : tie.Need-slice-aggregate-put-count-2
 slice-aggregate-put-count-2 c = search needs
 
 cast-put-count-2 : tie.Need-cast-put-count-2
-cast-put-count-2 c = search needs
+cast-put-count-2 c = omega (arith, start-5 (c .before .before .before) .pre .1 .lines)
 
 put-count-requires-2 : tie.Need-put-count-requires-2
 unfolding bytes

@@ -2,24 +2,27 @@
 use mathlib.Core.Path.{_∙_}
 use Prim.Native.Nat.{_-_}
 use native.Mathlib.Omega.{arith}
+use Rattle.basis.specs.Held.{held}
 use Rattle.division.proofs.PairSearch.{EarlierPassed, earlier-start, earlier-turn, earlier-found, earlier-stop}
 use Rattle.division.proofs.pairs.earlier_fails.Statement.{statement}
 use Rattle.division.proofs.pairs.earlier_fails.Tie as tie
 
 abbrev Inv-loop : tie.InvT-loop
-Inv-loop work₀ b j i₀ work i = EarlierPassed b j work₀ work i
+Inv-loop work₀ terms coefficients exponents b j i₀ work i = EarlierPassed (held b terms coefficients exponents) j work₀ work i
 
 abbrev μ-loop : tie.MeasureT-loop
-μ-loop work₀ b j i₀ work i = j - i
+μ-loop work₀ terms coefficients exponents b j i₀ work i = j - i
 
 loop-holds : tie.Need-loop-holds Inv-loop μ-loop
-loop-holds c = earlier-start _ (c .before .pre .2) (c .before .pre .3)
+loop-holds c =
+    let pre = c .before .before .before .before .pre in
+    earlier-start _ (pre .3) (pre .4)
 
 pair-fails-requires : tie.Need-pair-fails-requires Inv-loop μ-loop
 pair-fails-requires c κs =
     let s = c .before .before in
-    let pre = s .before .before .pre in
-    (pre .0, pre .1, s .loop .inv .work, s .loop .inv .zero, omega arith, pre .4)
+    let pre = s .before .before .before .before .before .pre in
+    (pre .0, pre .1, pre .2, s .loop .inv .work, s .loop .inv .zero, omega (arith, pre .5), pre .5)
 
 same-length : tie.Need-same-length Inv-loop μ-loop
 same-length c =

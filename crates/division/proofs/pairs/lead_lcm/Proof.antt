@@ -1,46 +1,21 @@
 -- `lead_lcm` meets its contract.
-use Rattle.reduction.specs.Sound.{generatorAt}
-use Rattle.division.proofs.LineMultiples.{leadRead, lcm-row}
-use borrow.Author.Needs.{needs}
+use Rattle.division.proofs.StoredLines.{lcm-read}
 use Rattle.division.proofs.pairs.lead_lcm.Statement.{statement}
 use Rattle.division.proofs.pairs.lead_lcm.Tie as tie
 
-mul-f : tie.Need-mul-f
-mul-f c = search needs
+lead-at-requires : tie.Need-lead-at-requires
+lead-at-requires c κs = (c .before .pre .2, c .before .pre .0)
 
-element-copy-out-f : tie.Need-element-copy-out-f
-element-copy-out-f c = search needs
-
-mul-g : tie.Need-mul-g
-mul-g c = search needs
-
-element-copy-out-g : tie.Need-element-copy-out-g
-element-copy-out-g c = search needs
-
-element-copy-out-lcm : tie.Need-element-copy-out-lcm
-element-copy-out-lcm c = search needs
-
-element-copy-out-lcm-2 : tie.Need-element-copy-out-lcm-2
-element-copy-out-lcm-2 c = search needs
+lead-at-requires-2 : tie.Need-lead-at-requires-2
+lead-at-requires-2 c κs = (c .before .before .pre .3, c .before .before .pre .0)
 
 lcm-requires : tie.Need-lcm-requires
-lcm-requires c κs = search needs
+lcm-requires c κs = c .before .before .before .pre .1
 
 returns : tie.Need-returns
-unfolding leadRead generatorAt
-returns c =
-    let a = c .before .before .before .before .before .args in
-    lcm-row (a .t1 .n) (generatorAt (a .t1) (a .i)) (generatorAt (a .t1) (a .j)) _ (c .lcm .ensures)
+returns c ts cs =
+    let s = c .before .before .before .before in
+    lcm-read (s .args .b) ts cs _ (s .args .i) (s .args .j) (s .pre .2) (s .pre .3) (c .before .before .lead-at .ensures) (c .before .lead-at2 .ensures) (c .lcm .ensures)
 
 pub lead-lcm-spec : {M : Type 1} → statement M
-lead-lcm-spec =
-    tie.close
-    (tie.spec
-    mul-f
-    element-copy-out-f
-    mul-g
-    element-copy-out-g
-    element-copy-out-lcm
-    element-copy-out-lcm-2
-    lcm-requires
-    returns)
+lead-lcm-spec = tie.close (tie.spec lead-at-requires lead-at-requires-2 lcm-requires returns)

@@ -4,6 +4,7 @@ use Prim.Native.Nat.{_-_}
 use lib.ListN.{length}
 use Rattle.tabtext.specs.Sizes.{most-terms}
 use Rattle.reduction.proofs.Elements.{length-mapped}
+use Rattle.multiplication.proofs.RankPlaces.{rank-place}
 use Rattle.multiplication.proofs.TailRows.{Gathered, gathered-none, gathered-small, gathered-place, gathered-more, gathered-all}
 use native.Mathlib.Omega.{arith}
 use borrow.Author.Needs.{needs}
@@ -11,10 +12,10 @@ use Rattle.multiplication.proofs.fill.tail_row.Statement.{statement}
 use Rattle.multiplication.proofs.fill.tail_row.Tie as tie
 
 abbrev Inv-loop : tie.InvT-loop
-Inv-loop keys l n p g r₀ k₀ r k = Gathered p n g l r k
+Inv-loop ranks l n p g r₀ k₀ r k = Gathered p n g l r k
 
 abbrev μ-loop : tie.MeasureT-loop
-μ-loop keys l n p g r₀ k₀ r k = k
+μ-loop ranks l n p g r₀ k₀ r k = k
 
 zero-requires : tie.Need-zero-requires Inv-loop μ-loop
 zero-requires c κs = search needs
@@ -40,12 +41,15 @@ mul-c c = omega (arith, gathered-place (c .before .before .loop .inv) (c .before
 element-copy-out-c : tie.Need-element-copy-out-c Inv-loop μ-loop
 element-copy-out-c c = gathered-place (c .before .before .loop .inv) (c .before .loop-test .taken)
 
-place-in-requires : tie.Need-place-in-requires Inv-loop μ-loop
-place-in-requires c κs = let s = c .before .before .before .before .before .before in (s .pre .3, s .pre .0)
+rank-requires : tie.Need-rank-requires Inv-loop μ-loop
+rank-requires c κs = c .before .before .before .before .before .before .pre .3
+
+rank-place-requires : tie.Need-rank-place-requires Inv-loop μ-loop
+rank-place-requires c κs = c .before .before .before .before .before .before .before .pre .0 .many
 
 subtract-at-requires : tie.Need-subtract-at-requires Inv-loop μ-loop
 subtract-at-requires c κs =
-    let s = c .before .before .before in
+    let s = c .before .before .before .before in
     let (_, _, _, _, l, m) = s .before .before .before .before .pre in
     (s .before .loop .inv .below, gathered-small (s .before .loop .inv) (s .loop-test .taken), m, l)
 
@@ -54,8 +58,9 @@ loop-less c = omega arith
 
 loop-again : tie.Need-loop-again Inv-loop μ-loop
 loop-again c =
-    let s = c .before .before .before .before in
-    gathered-more (s .before .loop .inv) (s .loop-test .taken) (s .before .before .before .before .pre .2) (c .before .place-in .ensures) (c .subtract-at .ensures)
+    let s = c .before .before .before .before .before in
+    let pre = s .before .before .before .before .pre in
+    gathered-more (s .before .loop .inv) (s .loop-test .taken) (pre .2) (rank-place _ (pre .0) (c .before .before .rank .ensures) (c .before .rank-place .ensures)) (c .subtract-at .ensures)
 
 returns : tie.Need-returns Inv-loop μ-loop
 returns c = gathered-all (c .before .loop .inv) (c .loop-test .left)
@@ -73,7 +78,8 @@ tail-row-spec =
     element-copy-out-m
     mul-c
     element-copy-out-c
-    place-in-requires
+    rank-requires
+    rank-place-requires
     subtract-at-requires
     loop-less
     loop-again

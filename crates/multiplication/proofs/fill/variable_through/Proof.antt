@@ -1,39 +1,67 @@
 -- `variable_through` meets its contract. The loop's invariant: none of the variables before x_j passes.
+use mathlib.Core.Path.{_≡_, sym}
 use Prim.Native.Nat.{_-_}
+use lib.ListN.{getD}
+use Rattle.monomial.specs.Rows.{exponent}
 use Rattle.monomial.specs.Represented.{row}
+use Rattle.monomial.proofs.Places.{exponent-row}
+use Rattle.multiplication.specs.Rules.{PassesBy}
 use Rattle.multiplication.proofs.Passing.{Blocked, blocked-none, blocked-more, blocked-all}
-use native.Mathlib.Omega.{arith}
+use borrow.Author.Needs.{needs}
 use Rattle.multiplication.proofs.fill.variable_through.Statement.{statement}
 use Rattle.multiplication.proofs.fill.variable_through.Tie as tie
 
 abbrev Inv-loop : tie.InvT-loop
-Inv-loop keys l m i n j₀ j = Blocked n l (row n m) i j
+Inv-loop ranks variables count w n m j₀ j = Blocked n (λ j. PassesBy ranks count (exponent n (row n m) j) w (getD variables j 0)) j
 
 abbrev μ-loop : tie.MeasureT-loop
-μ-loop keys l m i n j₀ j = n - j
+μ-loop ranks variables count w n m j₀ j = n - j
 
 loop-holds : tie.Need-loop-holds Inv-loop μ-loop
 loop-holds c = blocked-none
 
+element-copy-out-e : tie.Need-element-copy-out-e Inv-loop μ-loop
+element-copy-out-e c = search needs
+
+mul-passes : tie.Need-mul-passes Inv-loop μ-loop
+mul-passes c = search needs
+
+shared-slice-read-passes : tie.Need-shared-slice-read-passes Inv-loop μ-loop
+shared-slice-read-passes c = search needs
+
+abbrev origin : tie.At-loop Inv-loop μ-loop → tie.Start Inv-loop μ-loop
+origin c = c .before .before .before
+
+-- The exponent that is read.
+is : (c : tie.After-e Inv-loop μ-loop) → let d = c .before .before in let a = origin d .args in getD (a .t4 .e) (d .loop .j) (record { 0 = 0 }) .0 ≡ exponent (a .n) (row (a .n) (a .t4)) (d .loop .j)
+unfolding row
+is c = sym (exponent-row _ _ _ (c .before .loop-test .taken))
+
 passes-requires : tie.Need-passes-requires Inv-loop μ-loop
 passes-requires c κs =
-    let (keys, n, i, f, _) = c .before .before .before .pre in
-    (keys, n, i, c .loop-test .taken, f)
+    let e = c .before in
+    let d = e .before .before in
+    let (many, _, _, least, _) = origin d .pre in
+    (many, λ p. least _ (e .before .loop-test .taken) (rw (is e) at p))
 
 returns : tie.Need-returns Inv-loop μ-loop
-returns c = (c .before .before .loop-test .taken, c .before .passes .ensures .0 (c .if1 .taken))
+returns c =
+    let e = c .before .before .before in
+    (e .before .loop-test .taken, rw (is e) at (c .before .passes .ensures .0 (c .if1 .taken)))
 
 add-j : tie.Need-add-j Inv-loop μ-loop
-add-j c = omega arith
+add-j c = search needs
 
 loop-less : tie.Need-loop-less Inv-loop μ-loop
-loop-less c = omega arith
+loop-less c = search needs
 
 loop-again : tie.Need-loop-again Inv-loop μ-loop
-loop-again c = blocked-more (c .before .before .before .loop .inv) (c .before .before .loop-test .taken) (c .before .passes .ensures) (c .if1 .left)
+loop-again c =
+    let e = c .before .before .before in
+    blocked-more (e .before .before .loop .inv) (e .before .loop-test .taken) (rw (is e) at (c .before .passes .ensures)) (c .if1 .left)
 
 returns-2 : tie.Need-returns-2 Inv-loop μ-loop
-returns-2 c = absurd (blocked-all (c .before .loop .inv) (c .loop-test .left) (c .before .before .before .pre .4))
+returns-2 c = absurd (blocked-all (c .before .loop .inv) (c .loop-test .left) (origin (c .before) .pre .4))
 
 pub variable-through-spec : {M : Type 1} → statement M
 variable-through-spec =
@@ -42,6 +70,9 @@ variable-through-spec =
     Inv-loop
     μ-loop
     loop-holds
+    element-copy-out-e
+    mul-passes
+    shared-slice-read-passes
     passes-requires
     returns
     add-j

@@ -1,90 +1,84 @@
--- `first_divided` meets its contract. The loop's invariant: the arrays have all lines and terms, and none of the first i lines has a monomial that another
--- line's leading monomial divides.
+-- `first_divided` meets its contract. The loop's invariant: none of the first i lines has a monomial that another line's leading monomial divides.
 use Prim.Native.Nat.{ℕ, _≤_, _<_, _-_}
-use mathlib.Core.Path.{_≡_, sym, _∙_}
+use mathlib.Core.Path.{_≡_, sym, _∙_, subst}
 use mathlib.Core.Bool.{false≢true}
 use native.Mathlib.Omega.{arith}
 use borrow.Author.Count.{below-more}
 use borrow.Author.Needs.{needs}
-use mathlib.Core.List.{[]}
-use lib.ListN.{length}
-use Rattle.tabtext.specs.Sizes.{most-terms, most-lines}
+use denote.Ref.{now}
+use Rattle.tabtext.specs.declared.print.Generator.{Generator}
+use Rattle.basis.specs.Held.{Basis, held}
 use Rattle.reduction.specs.Sound.{generatorAt}
 use Rattle.reduction.specs.Leads.{rowsOf}
 use Rattle.reduction.specs.Places.{DividedByAnother}
-use Rattle.reduction.proofs.ArrayElements.{element-known}
-use Rattle.reduction.proofs.Elements.{length-mapped}
-use Rattle.reduction.proofs.LineElements.{Filled}
+use Rattle.reduction.proofs.HeldBasis.{held-line, held-filled}
 use Rattle.reduction.proofs.SmallestLine.{smallest-found, smallest-none}
 use Rattle.reduction.proofs.DividedPlaces.{divided-of-basis}
 use Rattle.reduction.proofs.divided.first_divided.Statement.{statement}
 use Rattle.reduction.proofs.divided.first_divided.Tie as tie
 
 abbrev Inv-loop : tie.InvT-loop
-Inv-loop leads b i₀ i = (i ≤ b .lines) × Filled b × ((k : ℕ) → k < i → ¬ DividedByAnother (b .n) k (rowsOf (b .n) (leads .count) (leads .monomials)) (generatorAt b k))
+Inv-loop terms coefficients exponents b leads i₀ i =
+    (i ≤ b .lines) × ((k : ℕ) → k < i → ¬ DividedByAnother (b .n) k (rowsOf (b .n) (leads .count) (leads .monomials)) (generatorAt (held b terms coefficients exponents) k))
 
 abbrev μ-loop : tie.MeasureT-loop
-μ-loop leads b i₀ i = b .lines - i
+μ-loop terms coefficients exponents b leads i₀ i = b .lines - i
+
+-- The basis that is lent.
+abbrev lent : tie.Start Inv-loop μ-loop → Basis
+lent c = held (c .args .b) (now (c .args .terms)) (now (c .args .coefficients)) (now (c .args .exponents))
 
 loop-holds : tie.Need-loop-holds Inv-loop μ-loop
-unfolding generatorAt
-loop-holds c =
-    let b = c .args .t1 in
-    let f : length (b .generators) ≡ most-lines = search (length-mapped, needs) in (
-      omega arith,
-      record {
-        lines = omega arith;
-        coefficients = λ k h.
-            let a = element-known _ _ (record { terms = 0; coefficients = []; monomials = [] }) (b .generators) _ (c .good .0 .1 .1 .1 .1 .1 .0 .1 .1) k (omega arith) in
-            let e : length (generatorAt b k .coefficients) ≡ most-terms = search (length-mapped, needs) in
-            omega (arith, c .pre .0 .lines k h .few);
-        terms = λ k h.
-            let a = element-known _ _ (record { terms = 0; coefficients = []; monomials = [] }) (b .generators) _ (c .good .0 .1 .1 .1 .1 .1 .0 .1 .1) k (omega arith) in
-            let e : length (generatorAt b k .monomials) ≡ most-terms = search (length-mapped, needs) in
-            omega (arith, c .pre .0 .lines k h .few);
-      },
-      λ k h. absurd (omega arith),
-    )
+loop-holds c = (omega arith, λ k h. absurd (omega arith))
 
-mul-divided-by-another : tie.Need-mul-divided-by-another Inv-loop μ-loop
-mul-divided-by-another c = omega arith
+line-at-requires : tie.Need-line-at-requires Inv-loop μ-loop
+line-at-requires c κs =
+    let e = c .before .before .before .before .before .before in
+    (omega (arith, e .pre .1 .few), e .pre .0)
 
-element-copy-out-divided-by-another : tie.Need-element-copy-out-divided-by-another Inv-loop μ-loop
-element-copy-out-divided-by-another c = omega arith
+-- The line that is read.
+read : (c : tie.After-line-at Inv-loop μ-loop) → c .line-at .result ≡ generatorAt (lent (c .before .before .before .before .before .before .before)) (c .before .before .before .loop .i)
+read c =
+    let e = c .before .before .before .before .before .before .before in
+    c .line-at .ensures ∙ sym (held-line (e .args .b) (now (e .args .terms)) (now (e .args .coefficients)) (now (e .args .exponents)) (c .before .before .before .loop .i) (omega (arith, e .pre .1 .few)))
+
+-- Another line's leading monomial divides one of g, which stands at the line's place.
+abbrev Says : (c : tie.After-line-at Inv-loop μ-loop) → Generator → Type 0
+Says c =
+    let e = c .before .before .before .before .before .before .before .args in
+    DividedByAnother (e .b .n) (c .before .before .before .loop .i) (rowsOf (e .b .n) (e .leads .count) (e .leads .monomials))
 
 divided-by-another-requires : tie.Need-divided-by-another-requires Inv-loop μ-loop
-unfolding generatorAt
 divided-by-another-requires c κs =
-    let s = c .before .before in
-    omega (arith, s .before .pre .0 .lines (s .loop .i) (omega arith) .few)
+    let e = c .before .before .before .before .before .before .before in
+    (subst (λ (g : Generator). g .terms ≤ _) (sym (read c)) (e .pre .1 .lines (c .before .before .before .loop .i) (omega arith) .few), omega (arith, e .pre .1 .few, e .pre .2 .0), e .pre .1 .variables .1)
 
 add-result : tie.Need-add-result Inv-loop μ-loop
-add-result c = omega arith
+add-result c = omega (arith, c .before .before .before .before .before .before .before .before .before .pre .1 .few)
 
 returns : tie.Need-returns Inv-loop μ-loop
-unfolding generatorAt
 returns c h =
-    let s = c .before .before .before .before in
-    let e = s .before in
-    smallest-found (divided-of-basis (e .args .t1) (e .pre .0) (s .loop .inv .1) _ _ (e .pre .1) h) (s .loop .i) (omega arith) (c .before .divided-by-another .ensures .0 (c .if1 .taken)) (s .loop .inv .2)
+    let s = c .before .before .before .before .before in
+    let e = s .before .before .before .before in
+    smallest-found (divided-of-basis (lent e) (e .pre .1) (held-filled _ _ _ _ (e .pre .1)) _ _ (e .pre .2) h) (s .loop .i) (omega arith)
+    (subst (Says (c .before .before)) (read (c .before .before)) (c .before .divided-by-another .ensures .0 (c .if2 .taken))) (s .loop .inv .1)
 
 add-i : tie.Need-add-i Inv-loop μ-loop
-add-i c = omega arith
+add-i c = omega (arith, c .before .before .before .before .before .before .before .before .before .pre .1 .few)
 
 loop-less : tie.Need-loop-less Inv-loop μ-loop
 loop-less c = omega arith
 
 loop-again : tie.Need-loop-again Inv-loop μ-loop
-unfolding generatorAt
 loop-again c =
-    let s = c .before .before .before .before in
-    (omega arith, s .loop .inv .1, below-more _ _ (s .loop .inv .2) (λ q. false≢true (sym (c .if1 .left) ∙ c .before .divided-by-another .ensures .1 q)))
+    let s = c .before .before .before .before .before in
+    (omega arith, below-more _ _ (s .loop .inv .1) (λ q. false≢true (sym (c .if2 .left) ∙ c .before .divided-by-another .ensures .1 (subst (Says (c .before .before)) (sym (read (c .before .before))) q))))
 
 returns-2 : tie.Need-returns-2 Inv-loop μ-loop
 returns-2 c h =
-    let s = c .before in
-    let e = s .before in
-    smallest-none (divided-of-basis (e .args .t1) (e .pre .0) (s .loop .inv .1) _ _ (e .pre .1) h) (λ k l. s .loop .inv .2 k (omega arith))
+    let s = c .before .before in
+    let e = s .before .before .before .before in
+    smallest-none (divided-of-basis (lent e) (e .pre .1) (held-filled _ _ _ _ (e .pre .1)) _ _ (e .pre .2) h) (λ k l. s .loop .inv .1 k (omega arith))
 
 pub first-divided-spec : {M : Type 1} → statement M
 first-divided-spec =
@@ -93,8 +87,7 @@ first-divided-spec =
     Inv-loop
     μ-loop
     loop-holds
-    mul-divided-by-another
-    element-copy-out-divided-by-another
+    line-at-requires
     divided-by-another-requires
     add-result
     returns

@@ -1,43 +1,34 @@
 -- `Leads::of` meets its contract. The loop's invariant: the leading monomials of the first i lines are stored.
-use Prim.Native.Nat.{_-_}
-use mathlib.Core.Path.{_≡_}
+use Prim.Native.Nat.{_*_, _-_, _≤_}
+use mathlib.Core.Path.{_≡_, _∙_, subst}
 use native.Mathlib.Omega.{arith}
 use borrow.Author.Needs.{needs}
 use lib.ListN.{length}
-use Rattle.tabtext.specs.Sizes.{most-lines}
-use Rattle.reduction.specs.Sound.{generatorAt}
+use Rattle.tabtext.specs.Sizes.{most-terms, most-lines}
+use Rattle.store.specs.Stored.{monomialIn}
+use Rattle.store.proofs.Storing.{Stored, stored-none, stored-more}
+use Rattle.reduction.proofs.ArrayRows.{blank}
 use Rattle.reduction.proofs.Elements.{length-mapped}
-use Rattle.reduction.proofs.LineLeads.{firstRead}
-use Rattle.reduction.proofs.LeadsOf.{StoredLeads, leads-none, leads-more, leads-all}
 use Rattle.reduction.proofs.leads.Leads.of.Statement.{statement}
 use Rattle.reduction.proofs.leads.Leads.of.Tie as tie
 
 abbrev Inv-loop : tie.InvT-loop
-Inv-loop b l₀ i₀ l i = StoredLeads b (l .count) (l .monomials) i
+Inv-loop exponents lines l₀ i₀ l i = (i ≤ lines) × (l .count ≡ i) × Stored (λ k x. x ≡ monomialIn exponents (k * most-terms)) blank (l₀ .monomials) (l .monomials) i
 
 abbrev μ-loop : tie.MeasureT-loop
-μ-loop b l₀ i₀ l i = b .lines - i
+μ-loop exponents lines l₀ i₀ l i = lines - i
 
 none-requires : tie.Need-none-requires Inv-loop μ-loop
 none-requires c κs = search needs
 
 loop-holds : tie.Need-loop-holds Inv-loop μ-loop
-loop-holds c =
-    let g : length (c .before .args .t1 .generators) ≡ most-lines = search (length-mapped, needs) in
-    let l : length (c .none .result .monomials) ≡ most-lines = search (length-mapped, needs) in
-    leads-none (omega arith) l (c .none .ensures)
+loop-holds c = (omega arith, c .none .ensures, stored-none _ _ _)
 
-mul-g : tie.Need-mul-g Inv-loop μ-loop
-mul-g c = omega arith
-
-element-copy-out-g : tie.Need-element-copy-out-g Inv-loop μ-loop
-element-copy-out-g c = omega arith
-
-element-copy-out-push : tie.Need-element-copy-out-push Inv-loop μ-loop
-element-copy-out-push c = search needs
+lead-at-requires : tie.Need-lead-at-requires Inv-loop μ-loop
+lead-at-requires c κs = search needs
 
 push-requires : tie.Need-push-requires Inv-loop μ-loop
-push-requires c κs = omega arith
+push-requires c κs = omega (arith, c .before .before .loop .inv .1)
 
 add-i : tie.Need-add-i Inv-loop μ-loop
 add-i c = omega arith
@@ -46,13 +37,17 @@ loop-less : tie.Need-loop-less Inv-loop μ-loop
 loop-less c = omega arith
 
 loop-again : tie.Need-loop-again Inv-loop μ-loop
-unfolding firstRead generatorAt
 loop-again c =
-    let s = c .before .before .before .before in
-    leads-more (s .loop .inv) (s .before .before .pre) (omega arith) (c .push .ensures)
+    let s = c .before .before .before in
+    let i = s .loop .inv in
+    let p = rw (i .1) at (c .push .ensures) in
+    let size : length (s .before .none .result .monomials) ≡ most-lines = search (length-mapped, needs) in
+    (omega arith, omega (arith, p .0), rw (p .1) (stored-more _ _ _ _ (s .loop .i) _ (i .2) (omega (arith, size)) (c .before .lead-at .ensures)))
 
 returns : tie.Need-returns Inv-loop μ-loop
-returns c = leads-all (c .before .loop .inv) (omega arith)
+returns c =
+    let i = c .before .loop .inv in
+    (omega (arith, i .1), λ k h. i .2 .stored k (omega (arith, h)))
 
 pub of-spec : {M : Type 1} → statement M
 of-spec =
@@ -62,9 +57,7 @@ of-spec =
     μ-loop
     none-requires
     loop-holds
-    mul-g
-    element-copy-out-g
-    element-copy-out-push
+    lead-at-requires
     push-requires
     add-i
     loop-less
