@@ -13,7 +13,7 @@ use Prim.Native.Nat.{ℕ, _+_, _<_, _≤_}
 use native.Mathlib.Nat.{eq-or-lt-of-le}
 use native.Mathlib.Omega.{arith}
 use lib.ListN.{length, getD, set}
-use Rattle.multiplication.proofs.Storing.{Stored, stored-none, stored-more}
+use Rattle.store.proofs.Storing.{Stored, stored-none, stored-more}
 use Rattle.fglm.specs.RowState.{noRow, rowAt}
 use Rattle.fglm.specs.Steps.{ClearedRow, ClearedRows}
 use Rattle.fglm.specs.declared.elimination.Reduced.{Reduced}

@@ -15,7 +15,7 @@ use Rattle.residue.specs.declared.Residue.{Residue}
 use Rattle.tabtext.specs.Sizes.{most-standard}
 use Rattle.multiplication.specs.Rows.{coordinate}
 use Rattle.multiplication.specs.declared.coordinates.Coordinates.{Coordinates}
-use Rattle.multiplication.proofs.Storing.{StoredFrom}
+use Rattle.store.proofs.Storing.{StoredFrom}
 use Rattle.fglm.specs.Vectors.{Whole}
 use Rattle.fglm.specs.ImageRows.{most-images, imageAt, ImagePut}
 

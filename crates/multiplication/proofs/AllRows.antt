@@ -35,7 +35,7 @@ use Rattle.multiplication.specs.Cursors.{cursor, Best}
 use Rattle.multiplication.specs.declared.coordinates.Coordinates.{Coordinates}
 use Rattle.reduction.specs.declared.irreducible.Irreducibles.{Irreducibles}
 use Rattle.multiplication.specs.declared.fill.Cursors.{Cursors}
-use Rattle.multiplication.proofs.Storing.{zeros-at}
+use Rattle.store.proofs.Storing.{zeros-at}
 use Rattle.multiplication.proofs.RowFilling.{Progress, progress-none, progress-more}
 use Rattle.multiplication.proofs.RowRules.{listed-length, listed-irreducible}
 use Rattle.multiplication.proofs.Merging.{best-smaller}

@@ -18,7 +18,7 @@ use Rattle.monomial.proofs.Products.{row-extensional}
 use Rattle.monomial.proofs.Places.{exponent-row, row-monomial}
 use Rattle.groebner.proofs.Variables.{variable}
 use Rattle.groebner.proofs.Powers.{exponent-power, exponent-power-other}
-use Rattle.multiplication.proofs.Storing.{zeros-at}
+use Rattle.store.proofs.Storing.{zeros-at}
 
 pub variable-stored : (i : ℕ) → i < most-variables → {m : Monomial} → m ≡ monomial most-variables (one most-variables)
     → (n : ℕ) → n ≤ most-variables → i < n → row n (record { e = set (m .e) i (record { 0 = 1 }) }) ≡ variable n i

@@ -1,6 +1,5 @@
 -- The theorems of the crate `multiplication`, besides those of its functions:
 --   Testing        the answer of a loop that tests each number below n
---   Storing        an array that a loop fills, one store a turn
 --   UnitRows       coordinates that are 1 at one place and 0 elsewhere
 --   NaturalSums    sums of products of numbers, and their residues
 --   RowSums        the loop of `apply`
@@ -27,7 +26,6 @@
 --   TailRows       the loop of `tail_row`
 --   GroebnerTest   rows that commute, or as many lines as variables, are those of a Groebner basis
 pub mod Testing
-pub mod Storing
 pub mod UnitRows
 pub mod NaturalSums
 pub mod RowSums

@@ -4,6 +4,8 @@
 --   VariablesRanked, variables-ranked   the same for `put_variable_ranks`
 --   Unseen            the loop of `rank_place`
 --   unseen-none, unseen-more, unseen-found, unseen-all   the same of it
+--   unseen-from, unseen-passed   the same in rising ranks, sought from a place on, for `place_after`
+--   ranks-rising       the ranks of a rising list rise
 --   rank-same          the test of `equal`
 --   ranks-less         a smaller rank of a list is that of a smaller monomial
 --   ranks-bounded, variables-bounded   the ranks of a list are below above-ranks, and those of the variables
@@ -11,8 +13,9 @@
 use mathlib.Core.Path.{_≡_, sym, _∙_, ap}
 use mathlib.Core.List.{List}
 use mathlib.Core.Bool.{true}
-use mathlib.Core.Logic.{_↔_}
+use mathlib.Core.Logic.{_↔_, by-cases}
 use Prim.Native.Nat.{ℕ, _+_, _≤_, _<_}
+use native.Mathlib.Decide.{decLt}
 use native.Mathlib.Omega.{arith}
 use borrow.Author.Count.{below-more}
 use borrow.Author.Tests.{eq-eqb, eqb-true}
@@ -23,13 +26,15 @@ use Rattle.monomial.specs.Rows.{Row, one}
 use Rattle.monomial.specs.Ordering.{Grevlex}
 use Rattle.monomial.specs.Represented.{row}
 use Rattle.monomial.specs.declared.Monomial.{Monomial}
+use Rattle.groebner.proofs.RisingLists.{RisingList}
 use Rattle.groebner.proofs.Variables.{variable}
 use Rattle.reduction.specs.Leads.{rowsOf}
 use Rattle.reduction.proofs.ArrayRows.{blank, rows-at}
-use Rattle.multiplication.specs.Ranks.{rankOf, Short, RanksOf, VariableRanks, FirstRank, Bounded}
+use Rattle.multiplication.specs.Ranks.{rankOf, Short, RanksOf, VariableRanks, FirstRank, Rising, Bounded}
 use Rattle.multiplication.specs.Listed.{Place}
 use Rattle.multiplication.proofs.RankOrder.{rank-less, rank-injective, rank-small}
-use Rattle.multiplication.proofs.Storing.{Stored}
+use Rattle.multiplication.proofs.RisingPlaces.{rising-at}
+use Rattle.store.proofs.Storing.{Stored}
 
 module _ (n : ℕ) where
   pub rank-place : {B : List (Row n)} {count : ℕ} {ranks : List ℕ} {m : Row n} {w r : ℕ} → RanksOf n B count ranks → (w ≡ rankOf n m) × Short n m → FirstRank ranks count w r → Place n B count m r
@@ -80,6 +85,21 @@ module _ {ranks : List ℕ} {count w k : ℕ} (so-far : Unseen ranks count w k) 
 
   pub unseen-all : count ≤ k → FirstRank ranks count w k
   unseen-all h = record { within = so-far .within; found = λ u. absurd (omega arith); first = so-far .nowhere }
+
+-- Rising ranks, of which the first are smaller than w.
+module _ {ranks : List ℕ} {count w : ℕ} (rising : Rising ranks count) where
+  pub unseen-from : {k : ℕ} → k ≤ count → ((j : ℕ) → j < k → getD ranks j 0 < w) → Unseen ranks count w k
+  unseen-from h low = record { within = h; nowhere = λ j u e. omega (arith, low j u, e) }
+
+  pub unseen-passed : {k : ℕ} → Unseen ranks count w k → k < count → w ≤ getD ranks k 0 → ¬ (getD ranks k 0 ≡ w) → FirstRank ranks count w count
+  unseen-passed {k} so-far h more other = record {
+    within = omega arith;
+    found = λ u. absurd (omega (arith, u));
+    first = λ j u e. by-cases (decLt j k) (λ v. so-far .nowhere j v e) (λ v. by-cases (decLt k j) (λ q. omega (arith, rising k j q u, more, e)) (λ q. other (ap (λ i. getD ranks i 0) (omega (arith, v, q)) ∙ e)));
+  }
+
+pub ranks-rising : (n : ℕ) {B : List (Row n)} {count : ℕ} {ranks : List ℕ} → RanksOf n B count ranks → RisingList (Grevlex n) B → length B ≡ count → Rising ranks count
+ranks-rising n {B} are rising size j k h u = ranks-less n are j k (omega (arith, h, u)) u .0 (rising-at (Grevlex n) B (one n) rising j k h (omega (arith, u, size)))
 
 -- The first i ranks of variables are stored.
 abbrev pub VariablesRanked : (n : ℕ) → (ranks₀ ranks : List ℕ) → ℕ → Type 0

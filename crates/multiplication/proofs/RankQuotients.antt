@@ -1,5 +1,6 @@
 -- The ranks of products with a variable and of quotients by one, and the test of `passes` by ranks.
 --   product-short     the exponents of x_i·B_s are digits
+--   product-greater   its rank is greater than that of B_s
 --   product-positive  its rank is not 0
 --   divided-by        x_j divides m exactly where its exponent is not 0
 --   quotient-short, quotient-rank   the exponents of B_s / x_j are digits, and its rank
@@ -41,8 +42,11 @@ module _ {n : ℕ} {l : Irreducibles} (listing : Listing n l) (s : ℕ) (hs : s 
   pub product-short : (i : ℕ) → i < n → Short n (product n (variable n i) (listedAt n l s))
   product-short i hi = record { short = λ k u. omega (arith, exponent-product n (variable n i) (listedAt n l s) k, variable-fits n i k hi (listing .exponents s hs k u)) }
 
+  pub product-greater : (i : ℕ) → i < n → rankOf n (listedAt n l s) < rankOf n (product n (variable n i) (listedAt n l s))
+  product-greater i hi = rank-less n _ _ listed-short (product-short i hi) .0 (variable-above n (grevlex-order n) i hi (listedAt n l s))
+
   pub product-positive : (i : ℕ) → i < n → 0 < rankOf n (product n (variable n i) (listedAt n l s))
-  product-positive i hi = omega (arith, rank-less n _ _ listed-short (product-short i hi) .0 (variable-above n (grevlex-order n) i hi (listedAt n l s)))
+  product-positive i hi = omega (arith, product-greater i hi)
 
   module _ (j : ℕ) where
     pub quotient-short : Short n (quotient n (listedAt n l s) (variable n j))

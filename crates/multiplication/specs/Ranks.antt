@@ -9,6 +9,7 @@
 --   RanksOf n B count ranks  the first ranks are those of the monomials B
 --   VariableRanks n ranks    the first n ranks are those of the variables
 --   FirstRank ranks count w r   r is the first place of w among the first ranks, or `count` where it is none of them
+--   Rising ranks count       the first ranks rise
 --   Bounded ranks count      the first ranks are below above-ranks
 --   NextRank ranks count from best j   of the ranks before place j that are at least `from`, the least is at place `best`
 use Prim.Native.Nat.{ℕ, zero, suc, _+_, _-_, _*_, _^_, _≤_, _<_}
@@ -68,6 +69,10 @@ pub record FirstRank (ranks : List ℕ) (count w r : ℕ) : Type 0 where
   pub within : r ≤ count
   pub found : r < count → getD ranks r 0 ≡ w
   pub first : (k : ℕ) → k < r → ¬ (getD ranks k 0 ≡ w)
+
+-- The first ranks rise.
+abbrev pub Rising : List ℕ → ℕ → Type 0
+Rising ranks count = (j k : ℕ) → j < k → k < count → getD ranks j 0 < getD ranks k 0
 
 -- The first ranks are below above-ranks.
 abbrev pub Bounded : List ℕ → ℕ → Type 0

@@ -19,7 +19,7 @@ ghost use Rattle.basis.specs.Held.{held};
 ghost use Rattle.reduction.specs.HeldLines.{linesOf};
 ghost use Rattle.reduction.specs.Sound.{SoundLine, Sound};
 ghost use Rattle.multiplication.specs.Rows.{«most-cells», NoRows, Below, tablesOf, AllBelow, cellOf};
-ghost use Rattle.multiplication.specs.Ranks.{rankOf, «above-ranks», RanksOf, VariableRanks, Bounded};
+ghost use Rattle.multiplication.specs.Ranks.{rankOf, «above-ranks», RanksOf, VariableRanks, Rising, Bounded};
 ghost use Rattle.multiplication.specs.Rules.{PassesBy, Unlisted, Through, ProductRow, MadeRow};
 ghost use Rattle.multiplication.specs.Cursors.{Listing, ProductRank, FirstRanks};
 ghost use Rattle.multiplication.specs.Listed.{listed, listedAt, Distinct, ListsIrreducibles, Subtracted, TailRow};
@@ -29,6 +29,7 @@ use crate::coordinates::put_row;
 use crate::coordinates::row_of;
 use crate::place::listed_at;
 use crate::ranks::next_place;
+use crate::ranks::place_after;
 use crate::ranks::put_lead_ranks;
 use crate::ranks::put_ranks;
 use crate::ranks::put_variable_ranks;
@@ -77,13 +78,13 @@ fn tail_row(ranks: &[u64], g: Generator, l: Irreducibles, n: usize, p: u16) -> C
 
 // Whether an exponent is not 0, and w less the rank x is no rank of the list.
 fn passes(ranks: &[u64], count: usize, e: Exponent, w: u64, x: u64) -> bool
-    requires { ⌜ (count ≤ length (now ranks)) × (0 < e .0 → x ≤ w) ⌝ }
+    requires { ⌜ (count ≤ length (now ranks)) × (0 < e .0 → x ≤ w) × Rising (now ranks) count ⌝ }
     ensures { λ r. ⌜ (r ≡ true) ↔ PassesBy (now (ranks .entry)) count (e .0) w x ⌝ }
 {
     if e.0 == 0 {
         return false;
     }
-    rank_place(ranks, count, w - x) == count
+    place_after(ranks, count, 0, w - x) == count
 }
 
 // The first x_j that divides m with w less its rank no rank of the list, of which there is one.
@@ -98,7 +99,7 @@ fn variable_through(
     requires { ⌜
         (count ≤ length (now ranks)) × (n ≤ length (now variables)) × (n ≤ most-variables)
         × ((j : ℕ) → j < n → 0 < exponent n (row n m) j → getD (now variables) j 0 ≤ w)
-        × ((j : ℕ) × (j < n) × PassesBy (now ranks) count (exponent n (row n m) j) w (getD (now variables) j 0))
+        × ((j : ℕ) × (j < n) × PassesBy (now ranks) count (exponent n (row n m) j) w (getD (now variables) j 0)) × Rising (now ranks) count
         ⌝ }
     ensures { λ r. ⌜ (r < n) × PassesBy (now (ranks .entry)) count (exponent n (row n m) r) w (getD (now (variables .entry)) r 0) ⌝ }
 {
@@ -127,7 +128,7 @@ fn product_row(
 ) -> Coordinates
     requires { ⌜
         (length (now cells) ≡ most-cells) × AllBelow p (tablesOf (now cells)) × RanksOf n (listed n l) (l .count) (now ranks) × VariableRanks n (now variables) × Listing n l
-        × (0 < p) × (p ≤ largest-modulus) × (i < n) × (s < l .count) × (w ≡ rankOf n (product n (x n i) (listedAt n l s))) × Through n l i s
+        × (0 < p) × (p ≤ largest-modulus) × (i < n) × (s < l .count) × (w ≡ rankOf n (product n (x n i) (listedAt n l s))) × Through n l i s × Rising (now ranks) (l .count)
         ⌝ }
     ensures { λ r. ⌜ ProductRow p n l (tablesOf (now (cells .entry))) i s r ⌝ }
 {
@@ -152,11 +153,11 @@ fn row_for(
     requires { ⌜
         (length (now cells) ≡ most-cells) × AllBelow p (tablesOf (now cells)) × RanksOf n (listed n l) (l .count) (now ranks) × VariableRanks n (now variables) × Listing n l
         × (1 < p) × (p ≤ largest-modulus) × (i < n) × (s < l .count) × (w ≡ rankOf n (product n (x n i) (listedAt n l s)))
-        × (Unlisted n l i s → Through n l i s)
+        × (Unlisted n l i s → Through n l i s) × Rising (now ranks) (l .count)
         ⌝ }
     ensures { λ r. ⌜ MadeRow p n l (tablesOf (now (cells .entry))) i s r ⌝ }
 {
-    let k = rank_place(ranks, l.count, w);
+    let k = place_after(ranks, l.count, s + 1, w);
     if k < l.count {
         return Coordinates::unit(k);
     }

@@ -3,19 +3,15 @@
 --   tabulate-same                    functions that agree give the same list
 --   tabulate-of                      a list is tabulated by what stands at its places
 --   tabulate-set                     one place of a tabulated list is changed
---   length-mapped                    a list is as long as its image
 use mathlib.Core.Path.{_≡_, refl, sym, _∙_, ap, ap₂}
-use mathlib.Core.List.{List, [], _∷_, map}
+use mathlib.Core.List.{List, [], _∷_}
 use mathlib.Core.Logic.{_⊎_, inl, inr, ⊎-elim, by-cases}
 use Prim.Native.Nat.{ℕ, zero, suc, _<_}
 use native.Mathlib.Decide.{decLt}
 use native.Mathlib.Omega.{arith}
-use lib.ListN.{length, getD, set, length-set, length-map}
+use lib.ListN.{length, getD, set, length-set}
 use lib.Seq.{getD-set-same, getD-set-other}
 use Rattle.store.specs.Stored.{tabulate}
-
-pub length-mapped : (X Y : Type 0) (f : X → Y) (l : List X) (n : ℕ) → length (map f l) ≡ n → length l ≡ n
-length-mapped X Y f l n p = sym (length-map l f) ∙ p
 
 equal-or : (i k : ℕ) → (i ≡ k) ⊎ (¬ (i ≡ k))
 equal-or i k = by-cases (decLt i k) (λ h. inr (λ e. omega (arith, h, e))) (λ h. by-cases (decLt k i) (λ q. inr (λ e. omega (arith, q, e))) (λ q. inl (omega (arith, h, q))))

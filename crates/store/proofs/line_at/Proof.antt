@@ -6,7 +6,8 @@ use borrow.Author.Needs.{needs}
 use lib.ListN.{length, getD}
 use Rattle.tabtext.specs.Sizes.{most-terms}
 use Rattle.store.specs.Stored.{monomialIn, lineIn}
-use Rattle.store.proofs.Tabulated.{length-mapped, tabulate-of}
+use Rattle.tabtext.proofs.Values.{length-mapped}
+use Rattle.store.proofs.Tabulated.{tabulate-of}
 use Rattle.store.proofs.Storing.{Stored, stored-none, stored-more}
 use Rattle.store.proofs.Blocks.{nothing, same-line}
 use Rattle.store.proofs.line_at.Statement.{statement}

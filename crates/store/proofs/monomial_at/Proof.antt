@@ -7,7 +7,8 @@ use lib.ListN.{length, getD}
 use Rattle.monomial.specs.Sizes.{most-variables}
 use Rattle.monomial.specs.declared.Exponent.{Exponent}
 use Rattle.store.specs.Stored.{monomialIn}
-use Rattle.store.proofs.Tabulated.{length-mapped, tabulate-of}
+use Rattle.tabtext.proofs.Values.{length-mapped}
+use Rattle.store.proofs.Tabulated.{tabulate-of}
 use Rattle.store.proofs.Storing.{Stored, stored-none, stored-more}
 use Rattle.store.proofs.monomial_at.Statement.{statement}
 use Rattle.store.proofs.monomial_at.Tie as tie

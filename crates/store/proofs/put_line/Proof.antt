@@ -6,7 +6,7 @@ use native.Mathlib.Omega.{arith}
 use borrow.Author.Needs.{needs}
 use lib.ListN.{length, length-set}
 use Rattle.tabtext.specs.Sizes.{most-terms}
-use Rattle.store.proofs.Tabulated.{length-mapped}
+use Rattle.tabtext.proofs.Values.{length-mapped}
 use Rattle.store.proofs.Blocks.{LinePut, line-none, line-more, lines-put}
 use Rattle.store.proofs.put_line.Statement.{statement}
 use Rattle.store.proofs.put_line.Tie as tie

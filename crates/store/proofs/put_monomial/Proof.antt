@@ -5,7 +5,7 @@ use native.Mathlib.Omega.{arith}
 use borrow.Author.Needs.{needs}
 use lib.ListN.{length, getD}
 use Rattle.monomial.specs.Sizes.{most-variables}
-use Rattle.store.proofs.Tabulated.{length-mapped}
+use Rattle.tabtext.proofs.Values.{length-mapped}
 use Rattle.store.proofs.Storing.{StoredFrom, stored-from-none, stored-from-more}
 use Rattle.store.proofs.Blocks.{monomial-here, monomial-other}
 use Rattle.store.proofs.put_monomial.Statement.{statement}

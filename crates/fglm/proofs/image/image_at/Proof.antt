@@ -6,7 +6,7 @@ use borrow.Author.Needs.{needs}
 use lib.ListN.{length, getD}
 use Rattle.tabtext.specs.Sizes.{most-standard}
 use Rattle.reduction.proofs.Elements.{length-mapped}
-use Rattle.multiplication.proofs.Storing.{Stored, stored-none, stored-more}
+use Rattle.store.proofs.Storing.{Stored, stored-none, stored-more}
 use Rattle.fglm.proofs.ImageArrays.{image-is}
 use Rattle.fglm.proofs.image.image_at.Statement.{statement}
 use Rattle.fglm.proofs.image.image_at.Tie as tie

@@ -6,7 +6,7 @@ use borrow.Author.Needs.{needs}
 use Rattle.tabtext.specs.Sizes.{most-standard}
 use Rattle.reduction.proofs.Elements.{length-mapped}
 use Rattle.multiplication.specs.Rows.{coordinate}
-use Rattle.multiplication.proofs.Storing.{StoredFrom, stored-from-none, stored-from-more}
+use Rattle.store.proofs.Storing.{StoredFrom, stored-from-none, stored-from-more}
 use Rattle.fglm.specs.Vectors.{Whole}
 use Rattle.fglm.proofs.ImageArrays.{image-put}
 use Rattle.fglm.proofs.image.put_image.Statement.{statement}

@@ -9,7 +9,7 @@ use Rattle.residue.specs.Word.{word}
 use Rattle.residue.proofs.Bounds.{product-bound}
 use Rattle.tabtext.specs.Sizes.{most-standard}
 use Rattle.multiplication.specs.Rows.{coordinate}
-use Rattle.multiplication.proofs.Storing.{Stored, stored-none, stored-more}
+use Rattle.store.proofs.Storing.{Stored, stored-none, stored-more}
 use Rattle.reduction.proofs.Elements.{length-mapped}
 use native.Mathlib.Omega.{arith}
 use borrow.Author.Needs.{needs}

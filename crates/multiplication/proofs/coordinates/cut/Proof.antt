@@ -6,7 +6,7 @@ use native.Mathlib.Decide.{decLt}
 use lib.ListN.{length, getD, List·getD-eq-default}
 use Rattle.residue.specs.declared.Residue.{Residue}
 use Rattle.tabtext.specs.Sizes.{most-standard}
-use Rattle.multiplication.proofs.Storing.{Stored, stored-more}
+use Rattle.store.proofs.Storing.{Stored, stored-more}
 use Rattle.reduction.proofs.Elements.{length-mapped}
 use native.Mathlib.Omega.{arith}
 use borrow.Author.Needs.{needs}

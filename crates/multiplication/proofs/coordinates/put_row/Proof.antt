@@ -3,7 +3,7 @@ use Prim.Native.Nat.{_-_, _≤_}
 use mathlib.Core.Path.{_≡_, refl}
 use Rattle.tabtext.specs.Sizes.{most-standard}
 use Rattle.multiplication.specs.Rows.{coordinate}
-use Rattle.multiplication.proofs.Storing.{StoredFrom, stored-from-none, stored-from-more}
+use Rattle.store.proofs.Storing.{StoredFrom, stored-from-none, stored-from-more}
 use native.Mathlib.Omega.{arith}
 use borrow.Author.Needs.{needs}
 use Rattle.multiplication.proofs.coordinates.put_row.Statement.{statement}

@@ -4,7 +4,7 @@ use mathlib.Core.Path.{_≡_, refl, ap, _∙_}
 use lib.ListN.{length, getD}
 use Rattle.residue.specs.declared.Residue.{Residue}
 use Rattle.tabtext.specs.Sizes.{most-standard}
-use Rattle.multiplication.proofs.Storing.{Stored, stored-none, stored-more}
+use Rattle.store.proofs.Storing.{Stored, stored-none, stored-more}
 use Rattle.reduction.proofs.Elements.{length-mapped}
 use native.Mathlib.Omega.{arith}
 use borrow.Author.Needs.{needs}

@@ -16,11 +16,11 @@ use Rattle.multiplication.specs.Rows.{tablesOf}
 use Rattle.multiplication.specs.Cursors.{cursor, Best, Listing, Nexts}
 use Rattle.multiplication.specs.Listed.{listedAt, Place, TailRow}
 use Rattle.reduction.proofs.Elements.{length-mapped}
-use Rattle.multiplication.proofs.Storing.{zeros-at}
-use Rattle.multiplication.proofs.RankPlaces.{rank-place, ranks-bounded, variables-bounded}
+use Rattle.store.proofs.Storing.{zeros-at}
+use Rattle.multiplication.proofs.RankPlaces.{rank-place, ranks-rising, ranks-bounded, variables-bounded}
 use Rattle.multiplication.proofs.RankQuotients.{product-short}
 use Rattle.multiplication.proofs.NextProducts.{nexts-first, nexts-more, nexts-bounded, nexts-best}
-use Rattle.multiplication.proofs.RowRules.{listed-once, comes-through, row-made, row-led}
+use Rattle.multiplication.proofs.RowRules.{listed-length, listed-once, comes-through, row-made, row-led}
 use Rattle.multiplication.proofs.AllRows.{rows-length, room, room-less, Filling, filling-none, place-fits, filling-more, filling-all}
 use native.Mathlib.Omega.{arith}
 use borrow.Author.Needs.{needs}
@@ -240,6 +240,7 @@ row-for-requires c κs =
       best .some u,
       nexts .held _ u (best .some u),
       comes-through _ sound _ li (full s) (lines s) _ (leads-are d) (tablesOf (d .loop .cells)) _ _ u (best .some u) (lead k) (f .if2 .left),
+      ranks-rising _ (ranks-of (known d) .put-ranks .ensures) (li .lists (sound .modulus .prime .above-one) .rising) (listed-length _ _ li (full s) (sound .modulus .prime .above-one)),
     )
 
 put-row-requires-2 : tie.Need-put-row-requires-2 Inv-loop μ-loop

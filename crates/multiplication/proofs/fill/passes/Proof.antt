@@ -9,14 +9,14 @@ use Rattle.multiplication.proofs.fill.passes.Tie as tie
 returns : tie.Need-returns
 returns c = (λ u. absurd (false≢true u), λ a. absurd (omega (arith, a .divisor, c .if1 .taken)))
 
-sub-rank-place : tie.Need-sub-rank-place
-sub-rank-place c = c .before .before .before .pre .1 (omega (arith, c .if1 .left))
+sub-place-after : tie.Need-sub-place-after
+sub-place-after c = c .before .before .before .pre .1 (omega (arith, c .if1 .left))
 
-rank-place-requires : tie.Need-rank-place-requires
-rank-place-requires c κs = search needs
+place-after-requires : tie.Need-place-after-requires
+place-after-requires c κs = let s = c .before .before .before in (s .pre .0, s .pre .2, omega arith, λ k h. absurd (omega (arith, h)))
 
 returns-2 : tie.Need-returns-2
-returns-2 c = passes-iff (c .before .if1 .left) (c .rank-place .ensures)
+returns-2 c = passes-iff (c .before .if1 .left) (c .place-after .ensures)
 
 pub passes-spec : {M : Type 1} → statement M
-passes-spec = tie.close (tie.spec returns sub-rank-place rank-place-requires returns-2)
+passes-spec = tie.close (tie.spec returns sub-place-after place-after-requires returns-2)

@@ -20,7 +20,7 @@ origin c = c .before .before .before .before .before
 passes-at : (c : tie.After-variable-through) → let a = origin c .args in Passes (a .n) (a .l) (listedAt (a .n) (a .l) (a .s)) (a .i) (c .variable-through .result)
 passes-at c =
     let s = origin c in
-    let (_, _, are, of-variables, listing, _, _, hi, hs, is, _) = s .pre in
+    let (_, _, are, of-variables, listing, _, _, hi, hs, is, _, _) = s .pre in
     let (hj, by) = c .variable-through .ensures in
     passes-by listing (s .args .s) hs of-variables hi is _ hj are .0 (rw (c .before .listed-at .ensures (s .args .n)) at by)
 
@@ -29,7 +29,7 @@ rank-at : (c : tie.After-variable-through) → let a = origin c .args in let j =
     rankOf (a .n) (quotient (a .n) (listedAt (a .n) (a .l) (a .s)) (variable (a .n) j)) + getD (a .variables .now) j 0 ≡ getD (a .ranks .now) (a .s) 0
 rank-at c =
     let s = origin c in
-    let (_, _, are, of-variables, listing, _, _, _, hs, _, _) = s .pre in
+    let (_, _, are, of-variables, listing, _, _, _, hs, _, _, _) = s .pre in
     omega (arith, are .rank (s .args .s) hs, of-variables .rank _ (c .variable-through .ensures .0), quotient-rank listing (s .args .s) hs _ (passes-at c .divisor))
 
 place-at : (c : tie.After-rank-place) → let d = c .before .before .before in let a = origin d .args in
@@ -37,7 +37,7 @@ place-at : (c : tie.After-rank-place) → let d = c .before .before .before in l
 place-at c =
     let d = c .before .before .before in
     let s = origin d in
-    let (_, _, are, _, listing, _, _, _, hs, _, _) = s .pre in
+    let (_, _, are, _, listing, _, _, _, hs, _, _, _) = s .pre in
     rank-place _ are (omega (arith, rank-at d), quotient-short listing (s .args .s) hs (d .variable-through .result)) (c .rank-place .ensures)
 
 inside : (c : tie.After-rank-place) → c .rank-place .result < origin (c .before .before .before) .args .l .count
@@ -50,13 +50,14 @@ variable-through-requires : tie.Need-variable-through-requires
 variable-through-requires c κs =
     let s = c .before .before .before .before in
     let a = s .args in
-    let (_, _, are, of-variables, listing, _, _, hi, hs, is, through) = s .pre in
+    let (_, _, are, of-variables, listing, _, _, hi, hs, is, through, rising) = s .pre in
     let (j, hj, p) = through .some in (
       are .many,
       of-variables .many,
       listing .variables,
       λ k u. rw (c .listed-at .ensures (a .n)) (variable-least listing (a .s) hs of-variables hi is k u),
       rw (c .listed-at .ensures (a .n)) (j, hj, passes-by listing (a .s) hs of-variables hi is j hj are .1 p),
+      rising,
     )
 
 mul-rank-place : tie.Need-mul-rank-place
@@ -79,13 +80,13 @@ rank-place-requires c κs = origin (c .before .before) .pre .2 .many
 
 row-of-requires : tie.Need-row-of-requires
 row-of-requires c κs =
-    let (e, _, _, _, l, _, _, i, _, _, _) = origin (c .before .before .before) .pre in
+    let (e, _, _, _, l, _, _, i, _, _, _, _) = origin (c .before .before .before) .pre in
     (e, omega (arith, l .variables), omega (arith, inside c, l .few))
 
 apply-requires : tie.Need-apply-requires
 apply-requires c κs =
     let d = c .before .before .before .before in
-    let (e, b, _, _, l, o, m, _, _, _, _) = origin d .pre in
+    let (e, b, _, _, l, o, m, _, _, _, _, _) = origin d .pre in
     (e, omega (arith, d .variable-through .ensures .0, l .variables), l .few, o, m, b, row-below (c .row-of .ensures) o b)
 
 returns : tie.Need-returns

@@ -3,7 +3,7 @@ use mathlib.Core.Path.{_∙_}
 use Prim.Native.Nat.{_-_, _≤_}
 use lib.ListN.{getD}
 use Rattle.multiplication.specs.Cursors.{ProductRank}
-use Rattle.multiplication.proofs.Storing.{Stored, stored-none, stored-more}
+use Rattle.store.proofs.Storing.{Stored, stored-none, stored-more}
 use native.Mathlib.Omega.{arith}
 use borrow.Author.Needs.{needs}
 use Rattle.multiplication.proofs.fill.put_first_ranks.Statement.{statement}

@@ -41,8 +41,8 @@ passes-requires : tie.Need-passes-requires Inv-loop μ-loop
 passes-requires c κs =
     let e = c .before in
     let d = e .before .before in
-    let (many, _, _, least, _) = origin d .pre in
-    (many, λ p. least _ (e .before .loop-test .taken) (rw (is e) at p))
+    let (many, _, _, least, _, rising) = origin d .pre in
+    (many, λ p. least _ (e .before .loop-test .taken) (rw (is e) at p), rising)
 
 returns : tie.Need-returns Inv-loop μ-loop
 returns c =

@@ -1,7 +1,7 @@
 -- `Coordinates::zero` meets its contract.
 use mathlib.Core.Path.{ap}
 use Rattle.residue.specs.declared.Residue.{Residue}
-use Rattle.multiplication.proofs.Storing.{zeros-at}
+use Rattle.store.proofs.Storing.{zeros-at}
 use Rattle.multiplication.proofs.coordinates.Coordinates.zero.Statement.{statement}
 use Rattle.multiplication.proofs.coordinates.Coordinates.zero.Tie as tie
 
