@@ -2,7 +2,6 @@
 -- Places:
 --   Elements            elements of a list by their places
 --   EachElement         what holds of every element of a list
---   ArrayElements       what the logic knows of each element of an array
 --   ArrayRows           the rows of exponents that arrays of monomials hold
 --   RowsInTurn          the rows of the first monomials of an array, one after the other
 --   LineElements        the lines of a basis of the code, by their places
@@ -30,7 +29,6 @@
 --   LcmDegree           the least common multiple of two leading monomials has a degree of at most n + 31
 pub mod EachElement
 pub mod Elements
-pub mod ArrayElements
 pub mod ArrayRows
 pub mod RowsInTurn
 pub mod LineElements
