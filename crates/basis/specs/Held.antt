@@ -7,6 +7,7 @@ use Rattle.tabtext.specs.declared.print.Generator.{Generator}
 use Rattle.store.specs.Stored.{linesIn}
 use Rattle.basis.specs.declared.Shape.{Shape}
 
+-- A basis: its lines are the first of the list.
 pub record Basis : Type 0 where
   pub p : ℕ
   pub n : ℕ

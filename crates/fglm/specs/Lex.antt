@@ -8,6 +8,7 @@ use Rattle.tabtext.specs.declared.print.Generator.{Generator}
 use Rattle.store.specs.Stored.{linesIn}
 use Rattle.fglm.specs.declared.lex_basis.LexShape.{LexShape}
 
+-- A lex basis: its lines and its standard monomials are the first of the lists.
 pub record LexBasis : Type 0 where
   pub lines : ℕ
   pub generators : List Generator
