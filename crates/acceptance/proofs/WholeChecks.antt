@@ -34,8 +34,9 @@ use Rattle.groebner.specs.Standard.{ZeroDimensional}
 use Rattle.groebner.proofs.Instance.{ground}
 use Rattle.groebner.proofs.Lists.{pigeon}
 use Rattle.groebner.proofs.RisingLists.{rising-once}
-use Rattle.groebner.proofs.Next.{next, next-lex, variables-ranking}
-use Rattle.groebner.proofs.IrreducibleList.{irreducibles, Counts, irreducibles-of-lines}
+use Rattle.groebner.specs.Next.{next, irreducibles}
+use Rattle.groebner.proofs.Next.{next-lex, variables-ranking}
+use Rattle.groebner.proofs.IrreducibleList.{Counts, irreducibles-of-lines}
 use Rattle.tabtext.specs.Sizes.{most-standard}
 use Rattle.basis.specs.Checks.{Judged, passed}
 use Rattle.basis.specs.Held.{Basis}

@@ -14,7 +14,7 @@ use Rattle.monomial.specs.Rows.{one}
 use Rattle.monomial.specs.Ordering.{rows, Grevlex}
 use Rattle.groebner.specs.Bases.{Reduced}
 use Rattle.groebner.specs.Standard.{ZeroDimensional}
-use Rattle.groebner.proofs.MultiplicationRows.{Filled}
+use Rattle.groebner.specs.MultiplicationRows.{Filled}
 use Rattle.basis.specs.Checks.{Judged, refused, passed, Checked}
 use Rattle.basis.specs.Answers.{basisOf}
 use Rattle.basis.specs.Refusals.{number}

@@ -13,14 +13,14 @@ use lib.ListN.{length}
 use Rattle.residue.specs.Field.{Arithmetic, Field}
 use Rattle.monomial.specs.Ordering.{Monomials, Divides, MonomialLaws, MonomialOrder}
 use Rattle.groebner.specs.Polynomials.{_∈_, Poly, Equal, coef, minus, shift}
-use Rattle.groebner.specs.Lines.{Line, polynomial}
+use Rattle.groebner.specs.Lines.{Line, polynomial, Low}
 use Rattle.groebner.specs.Remainders.{Remainder}
 use Rattle.groebner.specs.Bases.{SPolynomial}
 use Rattle.groebner.proofs.Terms.{clean, clean-proper, clean-same, equal-of-same, equal-nil}
 use Rattle.groebner.proofs.Ground.{PolynomialRing, divides-antisym, cancel-right}
 use Rattle.groebner.proofs.Decisions.{among?}
 use Rattle.groebner.proofs.Deciding.{not?, both?, as?}
-use Rattle.groebner.proofs.Division.{Low, remainder, remainder-equal}
+use Rattle.groebner.proofs.Division.{remainder, remainder-equal}
 use Rattle.reduction.specs.Whole.{On, Divided, Failing}
 use Rattle.convert.proofs.LineDecisions.{on?, on-below, smallest-or-none}
 

@@ -20,8 +20,9 @@ use Rattle.groebner.specs.Lines.{Line, Lines, Reducible}
 use Rattle.groebner.specs.Bases.{Groebner}
 use Rattle.groebner.specs.Standard.{Lists}
 use Rattle.groebner.specs.Systems.{Equivalent}
-use Rattle.groebner.proofs.RisingLists.{RisingList, rising-once, rising-unique}
-use Rattle.groebner.proofs.EnumerationOutcome.{Outcome}
+use Rattle.groebner.specs.RisingLists.{RisingList}
+use Rattle.groebner.specs.Enumeration.{Outcome}
+use Rattle.groebner.proofs.RisingLists.{rising-once, rising-unique}
 use Rattle.groebner.proofs.Equivalence.{equivalent}
 use Rattle.groebner.proofs.Instance.{ground, Converted, converted, one-basis}
 use Rattle.convert.specs.Outcome.{RisingRows, Converts}

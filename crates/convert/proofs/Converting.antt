@@ -16,11 +16,10 @@ use Rattle.monomial.specs.Rows.{Row}
 use Rattle.monomial.specs.Orders.{variables}
 use Rattle.monomial.specs.Ordering.{rows, Lex, Grevlex}
 use Rattle.monomial.proofs.Products.{rows-laws}
-use Rattle.groebner.specs.Lines.{Line}
+use Rattle.groebner.specs.Lines.{Line, Low}
 use Rattle.groebner.specs.Bases.{Clear, Reduced}
 use Rattle.groebner.proofs.Clear.{clear-iff}
-use Rattle.groebner.proofs.Division.{Low}
-use Rattle.groebner.proofs.EnumerationOutcome.{Outcome}
+use Rattle.groebner.specs.Enumeration.{Outcome}
 use Rattle.groebner.proofs.Next.{variables-ranking}
 use Rattle.tabtext.specs.Text.{Bytes}
 use Rattle.basis.specs.Held.{Basis}

@@ -17,9 +17,10 @@ use Rattle.groebner.specs.Lines.{Line, Reducible}
 use Rattle.groebner.specs.Standard.{Lists}
 use Rattle.groebner.proofs.Lists.{pigeon}
 use Rattle.groebner.proofs.RisingLists.{rising-once, lists-once}
-use Rattle.groebner.proofs.Next.{next, next-lex, variables-ranking}
+use Rattle.groebner.specs.Next.{next, irreducibles}
+use Rattle.groebner.proofs.Next.{next-lex, variables-ranking}
 use Rattle.groebner.proofs.ReducibleTest.{reducible}
-use Rattle.groebner.proofs.IrreducibleList.{irreducibles, Counts, irreducibles-of-lines}
+use Rattle.groebner.proofs.IrreducibleList.{Counts, irreducibles-of-lines}
 use Rattle.tabtext.specs.Sizes.{most-standard}
 use Rattle.reduction.specs.Whole.{Large}
 use Rattle.reduction.proofs.EachElement.{each-at, each-of}

@@ -20,25 +20,28 @@ use Rattle.monomial.specs.Ordering.{MonomialOrder, rows, Lex, Grevlex}
 use Rattle.monomial.proofs.LexOrder.{lex-order, variables-rank}
 use Rattle.monomial.proofs.GrevlexOrder.{grevlex-order}
 use Rattle.groebner.specs.Polynomials.{Poly, Same, coef}
-use Rattle.groebner.specs.Lines.{Line, Lines, Reducible}
+use Rattle.groebner.specs.Lines.{Line, Lines, Reducible, Low}
 use Rattle.groebner.specs.Remainders.{Finished}
 use Rattle.groebner.specs.Bases.{Groebner}
 use Rattle.groebner.specs.Standard.{Lists}
 use Rattle.groebner.proofs.Modules.{self}
 use Rattle.groebner.proofs.Linear.{lin}
 use Rattle.groebner.proofs.NormalForms.{Rewriting, NF, NF-coef, NF-fixed}
-use Rattle.groebner.proofs.Division.{Place, Low, rewriting, finished-irreducible}
+use Rattle.groebner.proofs.Division.{Place, rewriting, finished-irreducible}
 use Rattle.groebner.proofs.Images.{image}
 use Rattle.groebner.proofs.Coordinates.{sequences, coordinates}
 use Rattle.groebner.proofs.ImageCoordinates.{vector}
 use Rattle.groebner.proofs.Elimination.{Elimination}
 use Rattle.groebner.proofs.RowElimination.{add-vector}
-use Rattle.groebner.proofs.CoefficientRows.{subtract-multiple, multiply, unit-array, first-nonzero, terms}
+use Rattle.groebner.specs.CoefficientRows.{subtract-multiple, multiply, unit-array, terms}
+use Rattle.groebner.proofs.CoefficientRows.{first-nonzero}
 use Rattle.groebner.proofs.CoefficientElimination.{array-elimination}
-use Rattle.groebner.proofs.Next.{next, next-lex, variables-ranking}
+use Rattle.groebner.specs.Next.{next}
+use Rattle.groebner.proofs.Next.{next-lex, variables-ranking}
 use Rattle.groebner.proofs.Enumeration.{Progress, begin, run}
+use Rattle.groebner.specs.Enumeration.{Outcome}
 use Rattle.groebner.proofs.OrderedTails.{written}
-use Rattle.groebner.proofs.EnumerationOutcome.{Outcome, enumeration-outcome}
+use Rattle.groebner.proofs.EnumerationOutcome.{enumeration-outcome}
 use Rattle.groebner.proofs.Computing.{finished?, by-grevlex}
 use Rattle.convert.proofs.ComputedGround.{h, R, computed-field, computed-ring, inverse, inverse-law}
 use Rattle.convert.proofs.ReducedTerms.{reduce, reduce-normal}

@@ -17,11 +17,10 @@ use Rattle.monomial.specs.Rows.{Row, isPower, lcm}
 use Rattle.monomial.specs.Ordering.{rows, Grevlex}
 use Rattle.monomial.proofs.Products.{lcm-least}
 use Rattle.monomial.proofs.GrevlexOrder.{grevlex-order}
-use Rattle.groebner.specs.Lines.{Line, Lines}
+use Rattle.groebner.specs.Lines.{Line, Lines, Low}
 use Rattle.groebner.specs.Standard.{ZeroDimensional}
 use Rattle.groebner.proofs.Deciding.{as?}
 use Rattle.groebner.proofs.Decisions.{among?, below?}
-use Rattle.groebner.proofs.Division.{Low}
 use Rattle.groebner.proofs.Computing.{by-grevlex}
 use Rattle.groebner.proofs.ZeroDimension.{zero-dimensional-tested}
 use Rattle.tabtext.specs.Sizes.{most-bytes}

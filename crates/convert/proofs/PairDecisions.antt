@@ -9,13 +9,13 @@ use Prim.Native.Nat.{ℕ}
 use Rattle.residue.specs.Field.{Arithmetic, Field}
 use Rattle.monomial.specs.Ordering.{Monomials, Divides, Lcm, MonomialOrder}
 use Rattle.groebner.specs.Polynomials.{Poly, all-nil, Same, coef, minus, shift, scale, negate, relabel}
-use Rattle.groebner.specs.Lines.{Line, polynomial}
+use Rattle.groebner.specs.Lines.{Line, polynomial, Low}
 use Rattle.groebner.specs.Remainders.{Finished}
 use Rattle.groebner.specs.Bases.{SPolynomial}
 use Rattle.groebner.proofs.Terms.{clean, clean-proper, clean-same, coef-nil, nil-of-zero}
 use Rattle.groebner.proofs.NormalForms.{Rewriting, NF, NF-same, NF-fixed}
 use Rattle.groebner.proofs.Ground.{PolynomialRing}
-use Rattle.groebner.proofs.Division.{Place, Low, rewriting, remainder, remainder-NF, remainder-proper, finished-irreducible}
+use Rattle.groebner.proofs.Division.{Place, rewriting, remainder, remainder-NF, remainder-proper, finished-irreducible}
 use Rattle.groebner.proofs.Witnesses.{s-polynomial-unique}
 use Rattle.groebner.proofs.Computing.{Deciders, finished?}
 use Rattle.convert.proofs.ReducedTerms.{add, reduce, add-same, reduce-normal}

@@ -11,13 +11,13 @@ use Prim.Native.Nat.{ℕ, zero, suc}
 use Rattle.residue.specs.Field.{Arithmetic, Field}
 use Rattle.monomial.specs.Ordering.{Monomials, Divides, MonomialOrder}
 use Rattle.groebner.specs.Polynomials.{Poly, Same, coef, relabel, scale, shift, δ}
-use Rattle.groebner.specs.Lines.{Line, polynomial, Earliest}
+use Rattle.groebner.specs.Lines.{Line, polynomial, Earliest, Low}
 use Rattle.groebner.proofs.Modules.{self, zero-add, zero-act, neg-act, act-opposite, opposite-opposite, opposite-unique, plus-left-comm}
 use Rattle.groebner.proofs.Linear.{lin, lin-append, lin-scale, lin-same}
 use Rattle.groebner.proofs.Terms.{coef-cons}
 use Rattle.groebner.proofs.NormalForms.{Rewriting, NF, NF-coef, nfc}
 use Rattle.groebner.proofs.Ground.{PolynomialRing}
-use Rattle.groebner.proofs.Division.{Place, Low, rewriting, vanishes}
+use Rattle.groebner.proofs.Division.{Place, rewriting, vanishes}
 use Rattle.groebner.proofs.Computing.{Deciders, earliest}
 
 module _ {F M : Type 0} {R : Arithmetic F} {𝓜 : Monomials M} {lt : M → M → Type 0} (D : Deciders R 𝓜 lt) where

@@ -27,7 +27,7 @@ use Rattle.groebner.proofs.Terms.{all-at}
 use Rattle.groebner.proofs.Ground.{divides-trans}
 use Rattle.groebner.proofs.Buchberger.{before-or}
 use Rattle.groebner.proofs.Clear.{clear-iff}
-use Rattle.groebner.proofs.RisingLists.{leads}
+use Rattle.groebner.specs.RisingLists.{leads}
 use Rattle.tabtext.specs.Sizes.{most-standard, most-terms, most-lines}
 use Rattle.groebner.proofs.Counting.{Divisors, exponent-bounded, few-above, bound-monotone}
 

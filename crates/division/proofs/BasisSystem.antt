@@ -22,9 +22,9 @@ use Rattle.monomial.specs.declared.Monomial.{Monomial}
 use Rattle.monomial.proofs.Products.{divides-iff}
 use Rattle.monomial.proofs.GrevlexOrder.{grevlex-order}
 use Rattle.groebner.specs.Polynomials.{_∈_}
-use Rattle.groebner.specs.Lines.{Line, Reducible, Earliest}
+use Rattle.groebner.specs.Lines.{Line, Reducible, Earliest, Low}
 use Rattle.groebner.proofs.Ground.{PolynomialRing}
-use Rattle.groebner.proofs.Division.{Place, Low, rewriting}
+use Rattle.groebner.proofs.Division.{Place, rewriting}
 use Rattle.groebner.proofs.NormalForms.{Rewriting}
 use Rattle.groebner.proofs.Instance.{ground}
 use Rattle.basis.specs.Held.{Basis}

@@ -9,12 +9,12 @@ use Rattle.residue.specs.Field.{Arithmetic, Field}
 use Rattle.monomial.specs.Ordering.{Monomials, MonomialOrder}
 use Rattle.monomial.proofs.AnyOrder.{irreflexive, asymmetric}
 use Rattle.groebner.specs.Polynomials.{Poly, All, all-nil, all-cons, scale, shift, δ, coef, Same}
-use Rattle.groebner.specs.Lines.{Line, polynomial, Reducible, Earliest}
+use Rattle.groebner.specs.Lines.{Line, polynomial, Reducible, Earliest, Low}
 use Rattle.groebner.proofs.Modules.{self, mul-zero}
 use Rattle.groebner.proofs.Linear.{all-map, lin-append, lin-scale, lin-on, coef-lin, lin-same, lin-vanish}
 use Rattle.groebner.proofs.Terms.{all-of, no-term, coef-absent, δ-other, clean, clean-proper, clean-same}
 use Rattle.groebner.proofs.Ground.{PolynomialRing}
-use Rattle.groebner.proofs.Division.{Place, Low, rewriting, reducible?, vanishes}
+use Rattle.groebner.proofs.Division.{Place, rewriting, reducible?, vanishes}
 use Rattle.groebner.proofs.NormalForms.{Rewriting, nf, nfc, NF, NF-coef, NF-fixed}
 use Rattle.groebner.proofs.NormalCoefficients.{lin-single, nf-below}
 

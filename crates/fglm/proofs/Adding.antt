@@ -19,7 +19,7 @@ use Rattle.residue.specs.Reciprocals.{entry}
 use Rattle.residue.specs.declared.reciprocals.Reciprocals.{Reciprocals}
 use Rattle.residue.proofs.ResidueField.{residue-field}
 use Rattle.tabtext.specs.Sizes.{most-standard}
-use Rattle.groebner.proofs.CoefficientRows.{multiply}
+use Rattle.groebner.specs.CoefficientRows.{multiply}
 use Rattle.reduction.specs.Generators.{residue}
 use Rattle.multiplication.specs.declared.coordinates.Coordinates.{Coordinates}
 use Rattle.fglm.specs.Vectors.{vector, FirstPlace}

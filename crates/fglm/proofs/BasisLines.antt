@@ -13,13 +13,12 @@ use Rattle.monomial.specs.Sizes.{most-variables}
 use Rattle.monomial.specs.Rows.{Row, one}
 use Rattle.monomial.specs.Ordering.{Lex, Grevlex, rows}
 use Rattle.monomial.proofs.GrevlexOrder.{grevlex-order}
-use Rattle.groebner.specs.Lines.{Line}
+use Rattle.groebner.specs.Lines.{Line, Low}
 use Rattle.groebner.specs.Bases.{Clear, Groebner}
-use Rattle.groebner.proofs.Division.{Low}
-use Rattle.groebner.proofs.MultiplicationRows.{Filled}
-use Rattle.groebner.proofs.Next.{Ranking}
+use Rattle.groebner.specs.MultiplicationRows.{Filled}
+use Rattle.groebner.specs.Next.{Ranking}
 use Rattle.groebner.proofs.RisingLists.{rising-once}
-use Rattle.groebner.proofs.EnumerationOutcome.{Outcome}
+use Rattle.groebner.specs.Enumeration.{Outcome}
 use Rattle.basis.specs.Held.{Basis}
 use Rattle.reduction.specs.HeldLines as read
 use Rattle.reduction.specs.declared.irreducible.Irreducibles.{Irreducibles}

@@ -24,8 +24,9 @@ use Rattle.monomial.specs.Represented.{row}
 use Rattle.monomial.specs.declared.Monomial.{Monomial}
 use Rattle.groebner.specs.Polynomials.{Poly}
 use Rattle.groebner.proofs.Modules.{self, opposite-null}
-use Rattle.groebner.proofs.CoefficientRows.{terms}
-use Rattle.groebner.proofs.OrderedTails.{nonzero-term, nonzero-term-cases}
+use Rattle.groebner.specs.CoefficientRows.{terms}
+use Rattle.groebner.specs.OrderedTails.{nonzero-term}
+use Rattle.groebner.proofs.OrderedTails.{nonzero-term-cases}
 use Rattle.tabtext.specs.Sizes.{most-standard, most-terms}
 use Rattle.tabtext.specs.Text.{Term, Each}
 use Rattle.tabtext.specs.Printed.{rowOf, termsOf, termsIn}

@@ -16,7 +16,8 @@ use lib.ListN.{getD}
 use Rattle.residue.specs.Field.{Field, ZMod, modulo}
 use Rattle.tabtext.specs.Sizes.{most-standard}
 use Rattle.groebner.proofs.CoefficientElimination.{coefficient-vectors, array-combinations}
-use Rattle.groebner.proofs.CoefficientRows.{subtract-multiple, multiply, unit-array, first-nonzero, First, first-found, first-unique}
+use Rattle.groebner.specs.CoefficientRows.{subtract-multiple, multiply, unit-array}
+use Rattle.groebner.proofs.CoefficientRows.{first-nonzero, First, first-found, first-unique}
 use Rattle.groebner.proofs.RowElimination.{reduce-row, insert-row, pivot-step, add-vector}
 use Rattle.fglm.specs.RowState.{AugmentedRow, ReducedRow, State}
 use Rattle.fglm.specs.Elimination.{reduced, eliminated}

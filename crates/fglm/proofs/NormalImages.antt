@@ -15,17 +15,17 @@ use Rattle.monomial.specs.Ordering.{MonomialOrder, rows}
 use Rattle.monomial.specs.Represented.{row}
 use Rattle.monomial.specs.declared.Monomial.{Monomial}
 use Rattle.groebner.specs.Polynomials.{δ}
-use Rattle.groebner.specs.Lines.{Line, Reducible}
+use Rattle.groebner.specs.Lines.{Line, Reducible, Low}
 use Rattle.groebner.specs.Bases.{Clear, Groebner}
 use Rattle.groebner.specs.Standard.{Lists}
 use Rattle.groebner.proofs.Terms.{δ-same, δ-other}
 use Rattle.groebner.proofs.Places.{at-once}
 use Rattle.groebner.proofs.Ground.{PolynomialRing}
-use Rattle.groebner.proofs.Division.{Low}
 use Rattle.groebner.proofs.Images.{image}
 use Rattle.groebner.proofs.Coordinates.{coordinates}
 use Rattle.groebner.proofs.ImageCoordinates.{vector}
-use Rattle.groebner.proofs.MultiplicationRows.{multiply, Filled, NormalRow, row-one, row-next}
+use Rattle.groebner.specs.MultiplicationRows.{multiply, Filled}
+use Rattle.groebner.proofs.MultiplicationRows.{NormalRow, row-one, row-next}
 use Rattle.reduction.specs.Generators.{residue}
 use Rattle.reduction.specs.declared.irreducible.Irreducibles.{Irreducibles}
 use Rattle.multiplication.specs.Rows.{coordinate, indicator, coordinatesOf, cellOf, Tables}

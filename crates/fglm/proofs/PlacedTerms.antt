@@ -14,8 +14,9 @@ use Rattle.groebner.specs.Lines.{Once}
 use Rattle.groebner.proofs.Modules.{self, neg-act}
 use Rattle.groebner.proofs.Linear.{all-map}
 use Rattle.groebner.proofs.Terms.{coef-here, coef-there, coef-absent}
-use Rattle.groebner.proofs.CoefficientRows.{terms, terms-among, scale-terms, multiply}
-use Rattle.groebner.proofs.OrderedTails.{nonzero-term, ordered}
+use Rattle.groebner.specs.CoefficientRows.{terms, multiply}
+use Rattle.groebner.specs.OrderedTails.{nonzero-term, ordered}
+use Rattle.groebner.proofs.CoefficientRows.{terms-among, scale-terms}
 
 module _ {F M : Type 0} {R : Arithmetic F} (field : Field R) where
   -- Σ -v_k·B_k by places, the last first.

@@ -19,7 +19,7 @@ use Rattle.residue.proofs.ResidueField.{residue-field}
 use Rattle.tabtext.specs.Sizes.{most-standard}
 use Rattle.groebner.specs.Polynomials.{_∈_}
 use Rattle.groebner.proofs.CoefficientElimination.{coefficient-vectors, array-combinations}
-use Rattle.groebner.proofs.CoefficientRows.{terms}
+use Rattle.groebner.specs.CoefficientRows.{terms}
 use Rattle.groebner.proofs.Coordinates.{sequences, entries}
 use Rattle.groebner.proofs.Echelon as echelon
 use Rattle.groebner.proofs.Elimination.{Added}

@@ -14,7 +14,7 @@ use Rattle.monomial.specs.Rows.{Row, one, product}
 use Rattle.monomial.specs.Represented.{row}
 use Rattle.monomial.specs.declared.Monomial.{Monomial}
 use Rattle.groebner.proofs.Places.{place-of}
-use Rattle.groebner.proofs.Variables.{variable}
+use Rattle.groebner.specs.Variables.{variable}
 use Rattle.reduction.specs.declared.irreducible.Irreducibles.{Irreducibles}
 use Rattle.reduction.proofs.ArrayRows.{rows-length}
 use Rattle.multiplication.specs.Rows.{coordinate, indicator, Multiplied, Tables}

@@ -12,7 +12,8 @@ use borrow.Author.Count.{below-more}
 use Rattle.monomial.specs.Rows.{Row, one, product, quotient, divides}
 use Rattle.monomial.specs.Ordering.{rows}
 use Rattle.monomial.proofs.Products.{product-comm, product-quotient, divides-iff}
-use Rattle.groebner.proofs.Variables.{variable, one-or-variable}
+use Rattle.groebner.specs.Variables.{variable}
+use Rattle.groebner.proofs.Variables.{one-or-variable}
 use Rattle.multiplication.proofs.Testing.{false-not-true}
 use Rattle.fglm.specs.ImageRows.{FirstVariable}
 

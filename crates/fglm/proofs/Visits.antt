@@ -41,17 +41,21 @@ use Rattle.groebner.proofs.Instance.{ground}
 use Rattle.groebner.proofs.Modules.{Module}
 use Rattle.groebner.proofs.Spans.{Shifts}
 use Rattle.groebner.proofs.Coordinates.{sequences}
-use Rattle.groebner.proofs.CoefficientRows.{terms}
+use Rattle.groebner.specs.CoefficientRows.{terms}
 use Rattle.groebner.proofs.ImageCoordinates.{vector, vector-shifts}
-use Rattle.groebner.proofs.RisingLists.{leads, leads-append, rising-once}
+use Rattle.groebner.specs.RisingLists.{leads}
+use Rattle.groebner.proofs.RisingLists.{leads-append, rising-once}
 use Rattle.groebner.proofs.Counting.{Divisors, exponent-bounded, bound-monotone}
 use Rattle.groebner.proofs.Successors.{Successor, UpTo}
+use Rattle.groebner.specs.Next.{Ranking, next}
 use Rattle.groebner.proofs.ReducibleTest.{reducible, irreducible-iff, reducible-closed}
-use Rattle.groebner.proofs.Next.{Ranking, next, next-lex}
+use Rattle.groebner.specs.Variables.{variable}
+use Rattle.groebner.proofs.Next.{next-lex}
+use Rattle.groebner.specs.Enumeration.{Outcome}
 use Rattle.groebner.proofs.Seen.{Seen, SeenBelow, AllSeen, seen-line, seen-standard, seen-onward, visited-divisors, visited-few}
-use Rattle.groebner.proofs.Variables.{variable, variable-above}
+use Rattle.groebner.proofs.Variables.{variable-above}
 use Rattle.groebner.proofs.OrderedTails.{written}
-use Rattle.groebner.proofs.EnumerationOutcome.{Outcome, seen-outcome}
+use Rattle.groebner.proofs.EnumerationOutcome.{seen-outcome}
 use Rattle.tabtext.specs.Sizes.{most-standard}
 use Rattle.tabtext.specs.Printed.{termsIn}
 use Rattle.tabtext.specs.declared.print.Generator.{Generator}

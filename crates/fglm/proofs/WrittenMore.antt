@@ -13,9 +13,10 @@ use Rattle.groebner.specs.Polynomials.{_∈_, All, coef}
 use Rattle.groebner.specs.Lines.{Line}
 use Rattle.groebner.proofs.Linear.{all-map}
 use Rattle.groebner.proofs.Terms.{coef-absent}
-use Rattle.groebner.proofs.OrderedTails.{nonzero-term, nonzero-term-cases, ordered, ordered-line, written}
+use Rattle.groebner.specs.OrderedTails.{nonzero-term, ordered, ordered-line}
+use Rattle.groebner.proofs.OrderedTails.{nonzero-term-cases, written}
 use Rattle.groebner.proofs.ReducibleTest.{reducible}
-use Rattle.groebner.proofs.RisingLists.{leads}
+use Rattle.groebner.specs.RisingLists.{leads}
 use Rattle.reduction.specs.Leads.{multiple}
 
 module _ {F M : Type 0} {R : Arithmetic F} (field : Field R) (𝓜 : Monomials M) where

@@ -15,13 +15,12 @@ use Rattle.monomial.specs.Sizes.{most-variables}
 use Rattle.monomial.specs.Rows.{Row, one}
 use Rattle.monomial.specs.declared.Monomial.{Monomial}
 use Rattle.monomial.specs.Ordering.{Lex, Grevlex, rows}
-use Rattle.groebner.specs.Lines.{Line, Reducible}
+use Rattle.groebner.specs.Lines.{Line, Reducible, Low}
 use Rattle.groebner.specs.Bases.{Clear, Groebner}
 use Rattle.groebner.specs.Standard.{Lists}
-use Rattle.groebner.proofs.Division.{Low}
-use Rattle.groebner.proofs.MultiplicationRows.{Filled}
-use Rattle.groebner.proofs.Next.{Ranking}
-use Rattle.groebner.proofs.EnumerationOutcome.{Outcome}
+use Rattle.groebner.specs.MultiplicationRows.{Filled}
+use Rattle.groebner.specs.Next.{Ranking}
+use Rattle.groebner.specs.Enumeration.{Outcome}
 use Rattle.tabtext.specs.Sizes.{most-standard}
 use Rattle.reduction.specs.declared.irreducible.Irreducibles.{Irreducibles}
 use Rattle.multiplication.specs.Rows.{cellOf, AllBelow, Tables}

@@ -18,8 +18,8 @@ use Rattle.monomial.specs.Represented.{row}
 use Rattle.monomial.specs.declared.Monomial.{Monomial}
 use Rattle.tabtext.specs.Sizes.{most-standard}
 use Rattle.groebner.specs.Polynomials.{_∈_}
-use Rattle.groebner.proofs.Variables.{variable}
-use Rattle.groebner.proofs.MultiplicationRows.{multiply}
+use Rattle.groebner.specs.Variables.{variable}
+use Rattle.groebner.specs.MultiplicationRows.{multiply}
 use Rattle.reduction.specs.declared.irreducible.Irreducibles.{Irreducibles}
 use Rattle.multiplication.specs.Rows.{coordinate, indicator, Below, coordinatesOf, cellOf, Tables}
 use Rattle.multiplication.specs.Listed.{listed, listedAt, Place}

@@ -11,7 +11,7 @@ use Rattle.residue.specs.Field.{Field, ZMod, modulo}
 use Rattle.tabtext.specs.Sizes.{most-standard}
 use Rattle.groebner.specs.Polynomials.{_∈_, All}
 use Rattle.groebner.proofs.CoefficientElimination.{coefficient-vectors, array-combinations}
-use Rattle.groebner.proofs.CoefficientRows.{terms}
+use Rattle.groebner.specs.CoefficientRows.{terms}
 use Rattle.groebner.proofs.Coordinates.{sequences}
 use Rattle.groebner.proofs.Linear.{lin}
 use Rattle.groebner.proofs.RowElimination.{Holds}

@@ -11,8 +11,7 @@ use Prim.Native.Nat.{ℕ, _<_, _≤_}
 use lib.ListN.{getD, take}
 use Rattle.residue.specs.Field.{ZMod}
 use Rattle.tabtext.specs.Sizes.{most-standard}
-use Rattle.groebner.proofs.Echelon.{Pivoted}
-use Rattle.groebner.proofs.RowElimination.{Augmented}
+use Rattle.groebner.specs.CoefficientRows.{Pivoted, Augmented}
 use Rattle.multiplication.specs.Rows.{Below}
 use Rattle.fglm.specs.Vectors.{vector, Whole}
 use Rattle.fglm.specs.declared.elimination.Reduced.{Reduced}

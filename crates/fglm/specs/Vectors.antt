@@ -12,7 +12,7 @@ use Prim.Native.Nat.{ℕ, _<_}
 use lib.ListN.{length}
 use Rattle.residue.specs.Field.{ZMod, modulo}
 use Rattle.tabtext.specs.Sizes.{most-standard}
-use Rattle.groebner.proofs.CoefficientRows.{subtract-multiple, multiply, unit-array}
+use Rattle.groebner.specs.CoefficientRows.{subtract-multiple, multiply, unit-array}
 use Rattle.reduction.specs.Generators.{residue}
 use Rattle.multiplication.specs.Rows.{coordinate, Below}
 use Rattle.multiplication.specs.declared.coordinates.Coordinates.{Coordinates}

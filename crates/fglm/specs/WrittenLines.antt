@@ -12,8 +12,8 @@ use Rattle.monomial.specs.Represented.{row}
 use Rattle.monomial.specs.declared.Monomial.{Monomial}
 use Rattle.groebner.specs.Polynomials.{Poly, negate}
 use Rattle.groebner.specs.Lines.{Once}
-use Rattle.groebner.proofs.CoefficientRows.{terms}
-use Rattle.groebner.proofs.OrderedTails.{ordered-line}
+use Rattle.groebner.specs.CoefficientRows.{terms}
+use Rattle.groebner.specs.OrderedTails.{ordered-line}
 use Rattle.tabtext.specs.Text.{Term}
 use Rattle.tabtext.specs.Printed.{termsIn}
 use Rattle.tabtext.specs.declared.print.Generator.{Generator}

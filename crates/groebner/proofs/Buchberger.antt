@@ -8,8 +8,8 @@ use mathlib.Core.List.{List, [], _∷_, List·Memᴰ·head, List·Memᴰ·tail, 
 use mathlib.Core.Logic.{_⊎_, inl, inr, _↔_}
 use Rattle.residue.specs.Field.{Arithmetic, Field}
 use Rattle.monomial.specs.Ordering.{Monomials, Lcm, MonomialOrder}
-use Rattle.groebner.specs.Polynomials.{_∈_, Poly, scale, negate, minus, shift, coef}
-use Rattle.groebner.specs.Lines.{Before, Line, polynomial}
+use Rattle.groebner.specs.Polynomials.{_∈_, Poly, negate, minus, shift, coef}
+use Rattle.groebner.specs.Lines.{Before, Line, polynomial, Low}
 use Rattle.groebner.specs.Remainders.{Remainder, done}
 use Rattle.groebner.specs.Bases.{Groebner, SPolynomial, Buchberger}
 use Rattle.groebner.proofs.Modules.{self, opposite-null, opposite-opposite, swap-difference}
@@ -18,7 +18,7 @@ use Rattle.groebner.proofs.Terms.{coef-nil, coef-negate, coef-minus, ni
 use Rattle.groebner.proofs.NormalForms.{Rewriting, line, multiple, member-add, member-neg, member-same, member-shift, NF, NF-coef, NF-same}
 use Rattle.groebner.proofs.SPairs.{SPair, NF-of-member}
 use Rattle.groebner.proofs.Ground.{PolynomialRing, cancel-right}
-use Rattle.groebner.proofs.Division.{Place, Low, rewriting, coef-lead, coef-above, remainder-NF}
+use Rattle.groebner.proofs.Division.{Place, rewriting, coef-lead, coef-above, remainder-NF}
 use Rattle.groebner.proofs.Ideals.{member-line, member-of-ideal}
 use Rattle.groebner.proofs.GroebnerBases.{Trace, trace, groebner-NF, groebner-of-zero, zero-remainder}
 

@@ -12,12 +12,12 @@ use Rattle.monomial.specs.Ordering.{rows}
 use Rattle.monomial.proofs.Products.{lcm-least}
 use Rattle.monomial.proofs.GrevlexOrder.{grevlex-order}
 use Rattle.groebner.specs.Polynomials.{_∈_, Polynomial, Equal, IsSum, IsProduct}
-use Rattle.groebner.specs.Lines.{Line, polynomial, Lines, Reducible, Earliest}
+use Rattle.groebner.specs.Lines.{Line, polynomial, Lines, Reducible, Earliest, Low}
 use Rattle.groebner.specs.Remainders.{Remainder}
 use Rattle.groebner.specs.Ideals.{IdealOf}
 use Rattle.groebner.specs.Bases.{Leading, Groebner, Clear, Reduced, SPolynomial, Buchberger, Letter}
 use Rattle.groebner.proofs.Terms.{equal-of-same}
-use Rattle.groebner.proofs.Division.{Low, earliest-unique}
+use Rattle.groebner.proofs.Division.{earliest-unique}
 use Rattle.groebner.proofs.GroebnerBases.{groebner-zero}
 use Rattle.groebner.proofs.LeadingTerms.{letter}
 use Rattle.groebner.proofs.Clear.{clear-iff}

@@ -3,27 +3,27 @@
 --   standard-divisor        divisors of a standard monomial are standard (T6)
 --   standard-independent    the remainders of standard monomials are independent (T6)
 --   Of a Conversion H (T7): conversion-ideal, conversion-standard, conversion-reduced
-use mathlib.Core.Path.{_≡_, refl, sym, _∙_, ap, ap₂, subst, fun-ext}
-use mathlib.Core.List.{List, [], _∷_, _++_}
-use mathlib.Core.Logic.{_⊎_, inl, inr, _↔_}
+use mathlib.Core.Path.{_≡_, sym, _∙_, ap, ap₂, fun-ext}
+use mathlib.Core.List.{List, [], _∷_}
+use mathlib.Core.Logic.{_↔_}
 use Rattle.residue.specs.Field.{Arithmetic, Field}
 use Rattle.monomial.specs.Ordering.{Monomials, Divides, MonomialOrder}
-use Rattle.groebner.specs.Polynomials.{_∈_, Poly, All, all-nil, all-cons, Polynomial, negate, minus, δ, coef}
-use Rattle.groebner.specs.Lines.{Line, polynomial, Reducible}
+use Rattle.groebner.specs.Polynomials.{_∈_, Poly, All, all-cons, Polynomial, negate, minus, δ, coef}
+use Rattle.groebner.specs.Lines.{Line, polynomial, Reducible, Low}
 use Rattle.groebner.specs.Remainders.{Finished}
 use Rattle.groebner.specs.Ideals.{IdealOf, SameIdeal}
 use Rattle.groebner.specs.Bases.{Groebner, Reduced}
 use Rattle.groebner.specs.Standard.{Standard, Conversion}
 use Rattle.groebner.proofs.Modules.{self, functions, equal-of-difference, cancel-difference, opposite-opposite}
-use Rattle.groebner.proofs.Linear.{all-map, all-append, all-scale, lin, lin-append, lin-negate}
+use Rattle.groebner.proofs.Linear.{all-map, all-append, all-scale, lin}
 use Rattle.groebner.proofs.Terms.{all-of, coef-cons, coef-negate, coef-minus, nil-of-zero}
 use Rattle.groebner.proofs.NormalForms.{Rewriting, member-add, member-neg, member-same}
 use Rattle.groebner.proofs.Ground.{PolynomialRing}
-use Rattle.groebner.proofs.Division.{Place, Low, rewriting, reducible?}
+use Rattle.groebner.proofs.Division.{Place, rewriting}
 use Rattle.groebner.proofs.Ideals.{ideal-same, member-of-ideal, ideal-of-member}
 use Rattle.groebner.proofs.GroebnerBases.{groebner-NF, ideal-of-zero}
 use Rattle.groebner.proofs.Leads.{falling-unique}
-use Rattle.groebner.proofs.Spans.{Dependent, dependent-multiple, dependent-up, independent}
+use Rattle.groebner.proofs.Spans.{Dependent, dependent-up, independent}
 use Rattle.groebner.proofs.Images.{𝓕, image, image-NF, standard-iff, image-equation, image-shifts}
 use Rattle.groebner.proofs.OtherLines.{same-ideal, groebner-by-freedom}
 

@@ -7,11 +7,10 @@ use mathlib.Core.Logic.{_⊎_, inl, inr}
 use Rattle.residue.specs.Field.{Arithmetic}
 use Rattle.monomial.specs.Ordering.{Monomials, Divides, MonomialOrder}
 use Rattle.groebner.specs.Polynomials.{_∈_, All}
-use Rattle.groebner.specs.Lines.{Line, Before, polynomial, Reducible}
+use Rattle.groebner.specs.Lines.{Line, Before, polynomial, Reducible, Low}
 use Rattle.groebner.specs.Bases.{Clear}
 use Rattle.groebner.proofs.Terms.{all-at, all-of}
 use Rattle.groebner.proofs.Ground.{not-below}
-use Rattle.groebner.proofs.Division.{Low}
 use Rattle.groebner.proofs.Buchberger.{before-or}
 
 module _ {F M : Type 0} (R : Arithmetic F) (𝓜 : Monomials M) (G : List (Line F M)) (clear : Clear R 𝓜 G) where

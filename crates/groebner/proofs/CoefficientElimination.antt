@@ -18,7 +18,8 @@ use Rattle.groebner.proofs.Elimination.{Elimination}
 use Rattle.groebner.proofs.Echelon.{subtract}
 use Rattle.groebner.proofs.Coordinates.{sequences, entries}
 use Rattle.groebner.proofs.RowElimination.{Pivot, Vectors, Combinations, elimination}
-use Rattle.groebner.proofs.CoefficientRows.{subtract-multiple, multiply, unit-row, unit-array, first-nonzero, terms, ZeroBelow, ZeroFrom, First, length-subtract, length-multiply, length-unit-row, length-unit-array, entry-subtract, entry-multiply, entry-unit-row-own, entry-unit-row-other, entry-unit-array-own, entry-unit-array-other, zero-everywhere, zero-from-subtract, zero-from-multiply, first-found, terms-among}
+use Rattle.groebner.specs.CoefficientRows.{subtract-multiple, multiply, unit-array, terms}
+use Rattle.groebner.proofs.CoefficientRows.{unit-row, first-nonzero, ZeroBelow, ZeroFrom, First, length-subtract, length-multiply, length-unit-row, length-unit-array, entry-subtract, entry-multiply, entry-unit-row-own, entry-unit-row-other, entry-unit-array-own, entry-unit-array-other, zero-everywhere, zero-from-subtract, zero-from-multiply, first-found, terms-among}
 
 module _ {F : Type 0} {R : Arithmetic F} (ring : Ring R) (D : ℕ) where
   pub pivot-of-first : (a : List F) → length a ≤ D → (o : Option ℕ) → First R a o → Pivot (entries ring) D (λ k. getD a k (R .zero)) o

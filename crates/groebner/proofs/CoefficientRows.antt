@@ -1,10 +1,6 @@
 -- Rows of coefficients as lists; what is past the end of a list counts as zero.
---   subtract-multiple R a c b     a - c·b
---   multiply R c a                c·a
 --   unit-row R k                  one at place k, after zeros
---   unit-array R D k              one at place k of D places, zero elsewhere
 --   first-nonzero R zero? a       the first place where a is not zero; first-from counts on from a number
---   terms B c                     the polynomial with the coefficients c at the monomials B
 --   ZeroBelow R a n               a is zero at all places below n
 --   ZeroFrom R D n a              a has D places and is zero from place n on
 --   First R a o                   o is the first place where a is not zero, or none and a is zero
@@ -23,29 +19,15 @@ use lib.ListN.{length, getD, set, replicate, length-set, length-replicate, lengt
 use lib.Seq.{getD-set-same, getD-set-other}
 use Rattle.residue.specs.Field.{Arithmetic, Ring}
 use Rattle.groebner.specs.Polynomials.{_∈_, Poly, All, all-nil, all-cons, scale, negate}
+use Rattle.groebner.specs.CoefficientRows.{subtract-multiple, multiply, unit-array, terms}
 use Rattle.groebner.proofs.Modules.{self, neg-act, opposite-null, opposite-opposite, zero-add, mul-zero}
 use Rattle.groebner.proofs.Linear.{all-map}
 
 module _ {F : Type 0} (R : Arithmetic F) where
-  -- a - c·b
-  unfoldable pub subtract-multiple : List F → F → List F → List F
-  subtract-multiple [] c [] = []
-  subtract-multiple [] c (y ∷ b) = R .neg (R .mul c y) ∷ subtract-multiple [] c b
-  subtract-multiple (x ∷ a) c [] = x ∷ subtract-multiple a c []
-  subtract-multiple (x ∷ a) c (y ∷ b) = R .add x (R .neg (R .mul c y)) ∷ subtract-multiple a c b
-
-  -- c·a
-  unfoldable pub multiply : F → List F → List F
-  multiply c a = map (R .mul c) a
-
   -- One at place k, after zeros.
   unfoldable pub unit-row : ℕ → List F
   unit-row zero = R .one ∷ []
   unit-row (suc k) = R .zero ∷ unit-row k
-
-  -- One at place k of D places, zero elsewhere; all zero if there is no place k.
-  unfoldable pub unit-array : ℕ → ℕ → List F
-  unit-array D k = set (replicate D (R .zero)) k (R .one)
 
   -- The first place of a that is not zero, counted from k on.
   unfoldable pub first-from : ((c : F) → Dec (c ≡ R .zero)) → ℕ → List F → Option ℕ
@@ -70,21 +52,21 @@ module _ {F : Type 0} (R : Arithmetic F) where
   First a none = ZeroBelow a (length a)
   First a (some p) = (p < length a) × ¬ (getD a p (R .zero) ≡ R .zero) × ZeroBelow a p
 
-  pub length-subtract : (a : List F) (c : F) (b : List F) (k : ℕ) → length a ≤ k → length b ≤ k → length (subtract-multiple a c b) ≤ k
+  pub length-subtract : (a : List F) (c : F) (b : List F) (k : ℕ) → length a ≤ k → length b ≤ k → length (subtract-multiple R a c b) ≤ k
   unfolding subtract-multiple
   length-subtract [] c [] k p q = p
   length-subtract [] c (y ∷ b) k p q = omega (arith, length-subtract [] c b (k - 1) (omega arith) (omega arith))
   length-subtract (x ∷ a) c [] k p q = omega (arith, length-subtract a c [] (k - 1) (omega arith) (omega arith))
   length-subtract (x ∷ a) c (y ∷ b) k p q = omega (arith, length-subtract a c b (k - 1) (omega arith) (omega arith))
 
-  pub length-subtract-same : (a : List F) (c : F) (b : List F) → length a ≡ length b → length (subtract-multiple a c b) ≡ length a
+  pub length-subtract-same : (a : List F) (c : F) (b : List F) → length a ≡ length b → length (subtract-multiple R a c b) ≡ length a
   unfolding subtract-multiple
   length-subtract-same [] c [] e = refl
   length-subtract-same [] c (y ∷ b) e = absurd (omega (arith, e))
   length-subtract-same (x ∷ a) c [] e = absurd (omega (arith, e))
   length-subtract-same (x ∷ a) c (y ∷ b) e = ap suc (length-subtract-same a c b (omega (arith, e)))
 
-  pub length-multiply : (c : F) (a : List F) → length (multiply c a) ≡ length a
+  pub length-multiply : (c : F) (a : List F) → length (multiply R c a) ≡ length a
   unfolding multiply
   length-multiply c a = length-map a (R .mul c)
 
@@ -93,7 +75,7 @@ module _ {F : Type 0} (R : Arithmetic F) where
   length-unit-row zero = refl
   length-unit-row (suc k) = ap suc (length-unit-row k)
 
-  pub length-unit-array : (D k : ℕ) → length (unit-array D k) ≡ D
+  pub length-unit-array : (D k : ℕ) → length (unit-array R D k) ≡ D
   unfolding unit-array
   length-unit-array D k = length-set (replicate D (R .zero)) k (R .one) ∙ length-replicate D (R .zero)
 
@@ -114,11 +96,11 @@ module _ {F : Type 0} (R : Arithmetic F) where
   entry-zeros (suc D) zero = refl
   entry-zeros (suc D) (suc k) = entry-zeros D k
 
-  pub entry-unit-array-own : (D k : ℕ) → k < D → getD (unit-array D k) k (R .zero) ≡ R .one
+  pub entry-unit-array-own : (D k : ℕ) → k < D → getD (unit-array R D k) k (R .zero) ≡ R .one
   unfolding unit-array
   entry-unit-array-own D k h = getD-set-same (replicate D (R .zero)) k (R .one) (R .zero) (omega (arith, length-replicate D (R .zero)))
 
-  pub entry-unit-array-other : (D k j : ℕ) → j ≢ k → getD (unit-array D k) j (R .zero) ≡ R .zero
+  pub entry-unit-array-other : (D k j : ℕ) → j ≢ k → getD (unit-array R D k) j (R .zero) ≡ R .zero
   unfolding unit-array
   entry-unit-array-other D k j n = getD-set-other (replicate D (R .zero)) k j (R .one) (R .zero) n ∙ entry-zeros D j
 
@@ -197,12 +179,6 @@ module _ {F : Type 0} {R : Arithmetic F} (ring : Ring R) where
 
   pub zero-from-multiply : (D n : ℕ) (c : F) (a : List F) → ZeroFrom R D n a → ZeroFrom R D n (multiply R c a)
   zero-from-multiply D n c a p = (length-multiply R c a ∙ p .0, λ k l. entry-multiply c a k ∙ ap (R .mul c) (p .1 k l) ∙ mul-zero ring c)
-
--- The polynomial with the coefficients c at the monomials B.
-unfoldable pub terms : {F M : Type 0} → List M → List F → Poly F M
-terms [] c = []
-terms (b ∷ B) [] = []
-terms (b ∷ B) (x ∷ c) = (x, b) ∷ terms B c
 
 pub terms-among : {F M : Type 0} (B : List M) (c : List F) → All (λ b. b ∈ B) (terms B c)
 unfolding terms

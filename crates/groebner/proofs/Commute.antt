@@ -15,18 +15,19 @@ use Rattle.residue.specs.Field.{Arithmetic, Field}
 use Rattle.monomial.specs.Rows.{Row}
 use Rattle.monomial.specs.Ordering.{Monomials, Divides, MonomialOrder, rows}
 use Rattle.groebner.specs.Polynomials.{_∈_, Poly, All, shift, coef}
-use Rattle.groebner.specs.Lines.{Line, polynomial, Reducible}
+use Rattle.groebner.specs.Lines.{Line, polynomial, Reducible, Low}
 use Rattle.groebner.specs.Bases.{Groebner}
 use Rattle.groebner.proofs.Modules.{Module, self, functions, opposite-plus-self}
 use Rattle.groebner.proofs.Linear.{all-map, all-both, lin, lin-relabel, lin-on}
 use Rattle.groebner.proofs.NormalForms.{Rewriting, nf, NF, NF-irreducible}
 use Rattle.groebner.proofs.Ground.{PolynomialRing, not-below, divides-trans}
-use Rattle.groebner.proofs.Division.{Place, Low, rewriting, reducible?}
+use Rattle.groebner.proofs.Division.{Place, rewriting, reducible?}
 use Rattle.groebner.proofs.Ideals.{member-of-ideal}
 use Rattle.groebner.proofs.GroebnerBases.{groebner-of-zero, zero-remainder}
 use Rattle.groebner.proofs.LinearMaps.{LinearMap, apply-null, apply-lin}
 use Rattle.groebner.proofs.Images.{𝓕, image}
-use Rattle.groebner.proofs.Variables.{variable, apply, Commuting, apply-one, apply-variable, variable-induction, one-or-variable, variable-above, product-left-comm}
+use Rattle.groebner.specs.Variables.{variable}
+use Rattle.groebner.proofs.Variables.{apply, Commuting, apply-one, apply-variable, variable-induction, one-or-variable, variable-above, product-left-comm}
 use Rattle.groebner.proofs.NormalCoefficients.{reducible-multiple, irreducible-divisor, not-reducible, ideal-vanishes, NF-value, nf-below, unit, lin-unit, image-irreducible, image-unit, image-shift, image-lead}
 
 module _ {F : Type 0} {R : Arithmetic F} (n : ℕ) {lt : Row n → Row n → Type 0} (𝓟 : PolynomialRing R (rows n)) (ord : MonomialOrder (rows n) lt) (G : List (Line F (Row n))) (low : Low lt G)

@@ -12,7 +12,7 @@ use mathlib.Core.Logic.{_↔_}
 use Rattle.residue.specs.Field.{Arithmetic, Field}
 use Rattle.monomial.specs.Ordering.{Monomials, MonomialOrder}
 use Rattle.groebner.specs.Polynomials.{Poly, Polynomial, Equal, negate, minus, shift, times, δ, coef, Same, IsSum, IsProduct}
-use Rattle.groebner.specs.Lines.{Line}
+use Rattle.groebner.specs.Lines.{Line, Low}
 use Rattle.groebner.specs.Remainders.{Remainder}
 use Rattle.groebner.specs.Ideals.{IdealOf}
 use Rattle.groebner.specs.Bases.{Groebner}
@@ -21,7 +21,7 @@ use Rattle.groebner.proofs.Linear.{all-true, lin, lin-append, lin-negat
 use Rattle.groebner.proofs.Terms.{coef-append, coef-minus, coef-shift, coef-times, equal-of-same, same-of-equal}
 use Rattle.groebner.proofs.NormalForms.{Rewriting, line, multiple, NF, NF-coef, NF-same, Member, coef-combination, member-zero, member-add, member-neg, member-same, member-lin, member-shift, member-of-NF, residue}
 use Rattle.groebner.proofs.Ground.{PolynomialRing}
-use Rattle.groebner.proofs.Division.{Place, Low, rewriting, remainder-NF, remainder-proper}
+use Rattle.groebner.proofs.Division.{Place, rewriting, remainder-NF, remainder-proper}
 use Rattle.groebner.proofs.Ideals.{member-of-ideal, ideal-of-member}
 use Rattle.groebner.proofs.GroebnerBases.{remainder-member, groebner-NF}
 

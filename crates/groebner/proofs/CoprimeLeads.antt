@@ -13,7 +13,7 @@ use mathlib.Core.Logic.{_⊎_, inl, inr}
 use Rattle.residue.specs.Field.{Arithmetic, Field}
 use Rattle.monomial.specs.Ordering.{Monomials, Lcm, MonomialOrder}
 use Rattle.groebner.specs.Polynomials.{Poly, all-nil, relabel, negate, minus, δ, coef}
-use Rattle.groebner.specs.Lines.{Before, Line}
+use Rattle.groebner.specs.Lines.{Before, Line, Low}
 use Rattle.groebner.specs.Bases.{Groebner}
 use Rattle.groebner.proofs.Modules.{self, cancel-difference}
 use Rattle.groebner.proofs.Linear.{all-append, all-map, all-scale, all-relabel, lin, lin-append, lin-negate, lin-relabel, lin-plus, lin-swap}
@@ -21,7 +21,7 @@ use Rattle.groebner.proofs.Terms.{coef-minus, coef-shift}
 use Rattle.groebner.proofs.NormalForms.{Rewriting, line, multiple, combination, coef-combination}
 use Rattle.groebner.proofs.SPairs.{SPair, NF-of-member}
 use Rattle.groebner.proofs.Ground.{PolynomialRing, cancel-right}
-use Rattle.groebner.proofs.Division.{Place, Low, rewriting}
+use Rattle.groebner.proofs.Division.{Place, rewriting}
 use Rattle.groebner.proofs.Ideals.{member-of-ideal, coef-combination-nil}
 use Rattle.groebner.proofs.GroebnerBases.{groebner-of-zero, zero-remainder}
 use Rattle.groebner.proofs.Buchberger.{before-or}

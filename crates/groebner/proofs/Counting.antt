@@ -22,7 +22,8 @@ use Rattle.monomial.proofs.Products.{divisible-at}
 use Rattle.groebner.specs.Polynomials.{_∈_}
 use Rattle.groebner.specs.Lines.{Once}
 use Rattle.groebner.proofs.Lists.{pigeon, in-map, of-map, range, length-range, in-range, of-range, once-map-range}
-use Rattle.groebner.proofs.Exponents.{withExponent, raise, with-same, with-other, divides-raise, raise-proper, Lowered, lowered}
+use Rattle.groebner.specs.Next.{withExponent, raise}
+use Rattle.groebner.proofs.Exponents.{with-same, with-other, divides-raise, raise-proper, Lowered, lowered}
 
 -- The monomials x_v·m.
 unfoldable pub raises : (n : ℕ) → Row n → List (Row n)

@@ -1,6 +1,5 @@
 -- The remainder as document 01 words it: one exists, any two are equal, and it is the normal form.
 --   Place G             the lines of G
---   Low lt G            the tail of each line is below its leading monomial
 --   Top, scan           the greatest term of a polynomial whose monomial has a property
 --   First, look         the earliest line that divides a monomial
 --   rewriting 𝓟 ord G low   the lines as a rewriting system, whose choice is the earliest line
@@ -12,8 +11,8 @@ use mathlib.Core.Logic.{_⊎_, inl, inr}
 use mathlib.Core.WellFounded.{WellFounded·induction}
 use Rattle.residue.specs.Field.{Arithmetic, Field}
 use Rattle.monomial.specs.Ordering.{Monomials, Divides, MonomialOrder}
-use Rattle.groebner.specs.Polynomials.{_∈_, Poly, All, all-nil, all-cons, Polynomial, Equal, Same, coef, relabel, scale, minus, shift}
-use Rattle.groebner.specs.Lines.{Line, polynomial, Reducible, Earliest}
+use Rattle.groebner.specs.Polynomials.{_∈_, Poly, All, all-cons, Polynomial, Equal, Same, coef, relabel, scale, minus, shift}
+use Rattle.groebner.specs.Lines.{Line, polynomial, Reducible, Earliest, Low}
 use Rattle.groebner.specs.Remainders.{Finished, Step, Remainder, done, step}
 use Rattle.groebner.proofs.Modules.{self, mul-zero, opposite-null}
 use Rattle.groebner.proofs.Linear.{all-map, all-relabel, lin, lin-append, lin-scale, lin-negate, lin-same}
@@ -25,10 +24,6 @@ use Rattle.groebner.proofs.Ground.{PolynomialRing, cancel-right}
 -- The lines of a list.
 abbrev pub Place : {F M : Type 0} → List (Line F M) → Type 0
 Place {F} {M} G = (g : Line F M) × (g ∈ G)
-
--- The tail of each line is below its leading monomial.
-abbrev pub Low : {F M : Type 0} → (M → M → Type 0) → List (Line F M) → Type 0
-Low {F} {M} lt G = (g : Line F M) → g ∈ G → All (λ m. lt m (g .0)) (g .1)
 
 module _ {F M : Type 0} {𝓜 : Monomials M} {lt : M → M → Type 0} (ord : MonomialOrder 𝓜 lt) (P : M → Type 0) (P? : (m : M) → Dec (P m)) where
   -- The greatest term whose monomial has P, if there is one.

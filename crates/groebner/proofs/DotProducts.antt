@@ -1,5 +1,4 @@
 -- Sums of products over the numbers below d.
---   dot R d v w    Σ v(k)·w(k) over k < d
 --   dot-on         it reads v and w below d only
 --   dot-comm       v and w may change places
 --   dot-add        of a sum in the first place it is the sum
@@ -14,11 +13,7 @@ use native.Mathlib.Decide.{ℕ-discrete}
 use native.Mathlib.Omega.{arith}
 use Rattle.residue.specs.Field.{Arithmetic, Ring}
 use Rattle.groebner.proofs.Modules.{self, plus-medial, zero-add, mul-zero}
-
--- Σ v(k)·w(k) over k < d
-unfoldable pub dot : {F : Type 0} → Arithmetic F → ℕ → (ℕ → F) → (ℕ → F) → F
-dot R zero v w = R .zero
-dot R (suc d) v w = R .add (R .mul (v d) (w d)) (dot R d v w)
+use Rattle.groebner.specs.MultiplicationRows.{dot}
 
 module _ {F : Type 0} {R : Arithmetic F} (ring : Ring R) where
   open Arithmetic R using (zero as 𝟘, one as 𝟙, add, mul)

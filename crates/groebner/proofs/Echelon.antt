@@ -1,6 +1,5 @@
 -- Reduced echelon form in a module with coordinates: each row has a pivot, a place where reduction by the rows leaves zero.
 --   CoordinateFunctions 𝓥     a coordinate of each vector at each place, additive and homogeneous
---   Pivoted A                 a row with its pivot; pivots rs: the pivots of a list of rows
 --   subtract 𝓥 a c b          a - c·b
 --   part 𝓐 rs v               the combination of the rows rs that has v's coordinates at the pivots
 --   reduce 𝓐 rs v             v less that part
@@ -27,6 +26,7 @@ use lib.ListN.{length, length-append, length-map}
 use Rattle.residue.specs.Field.{Arithmetic}
 use Rattle.groebner.specs.Polynomials.{_∈_, Poly, All, all-nil, all-cons, scale}
 use Rattle.groebner.specs.Lines.{Once}
+use Rattle.groebner.specs.CoefficientRows.{Pivoted}
 use Rattle.groebner.proofs.Modules.{Module, self, null-plus, plus-left-comm, plus-medial, opposite-unique, zero-act, act-null, neg-act, act-opposite, opposite-null, opposite-plus, opposite-opposite, equal-of-difference, mul-zero}
 use Rattle.groebner.proofs.Linear.{all-append, all-scale, lin, lin-append, lin-scale}
 use Rattle.groebner.proofs.Lists.{pigeon, once-append, of-map, range, length-range, in-range, of-range, once-range}
@@ -38,11 +38,6 @@ pub record CoordinateFunctions {F W : Type 0} {R : Arithmetic F} (𝓥 : Module 
   pub at : ℕ → W → F
   pub at-plus : (k : ℕ) (v w : W) → at k (𝓥 .plus v w) ≡ R .add (at k v) (at k w)
   pub at-act : (k : ℕ) (c : F) (v : W) → at k (𝓥 .act c v) ≡ R .mul c (at k v)
-
--- A row with its pivot.
-pub record Pivoted (A : Type 0) : Type 0 where
-  pub row : A
-  pub pivot : ℕ
 
 abbrev pub pivots : {A : Type 0} → List (Pivoted A) → List ℕ
 pivots rs = map (λ r. r .pivot) rs

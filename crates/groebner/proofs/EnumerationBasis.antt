@@ -16,7 +16,7 @@ use Rattle.monomial.specs.Rows.{Row}
 use Rattle.monomial.specs.Ordering.{Monomials, Divides, MonomialOrder, rows}
 use Rattle.monomial.proofs.AnyOrder.{irreflexive}
 use Rattle.groebner.specs.Polynomials.{_∈_, All, Polynomial, coef, Same}
-use Rattle.groebner.specs.Lines.{Once, Line, polynomial, Falling, Reducible, Rising}
+use Rattle.groebner.specs.Lines.{Once, Line, polynomial, Falling, Reducible, Rising, Low}
 use Rattle.groebner.specs.Remainders.{Remainder}
 use Rattle.groebner.specs.Bases.{Groebner}
 use Rattle.groebner.specs.Standard.{Lists, Standard, Conversion}
@@ -24,17 +24,18 @@ use Rattle.groebner.proofs.Modules.{self, functions}
 use Rattle.groebner.proofs.Linear.{all-map, lin-same}
 use Rattle.groebner.proofs.Terms.{coef-cons}
 use Rattle.groebner.proofs.Ground.{PolynomialRing}
-use Rattle.groebner.proofs.Division.{Low}
 use Rattle.groebner.proofs.GroebnerBases.{zero-remainder}
 use Rattle.groebner.proofs.Spans.{Dependent, Shifts}
 use Rattle.groebner.proofs.Images.{image-NF, standard-iff as standard-by-images}
 use Rattle.groebner.proofs.Coordinates.{sequences}
 use Rattle.groebner.proofs.ImageCoordinates.{vector, vector-dependent, vector-zero, vector-shifts}
-use Rattle.groebner.proofs.RisingLists.{ListsRising, rising-once, rising-leads}
+use Rattle.groebner.specs.RisingLists.{ListsRising}
+use Rattle.groebner.proofs.RisingLists.{rising-once, rising-leads}
 use Rattle.groebner.proofs.Lists.{in-map}
 use Rattle.groebner.proofs.Seen.{FoundLine, AllSeen}
 use Rattle.groebner.proofs.EnumerationResult.{MinimalDependent, standard-iff, lead-iff}
-use Rattle.groebner.proofs.OrderedTails.{ordered, ordered-line, written, ordered-all, ordered-length, ordered-proper, ordered-falling, tail-all, tail-same, leads-written, each-written, of-written}
+use Rattle.groebner.specs.OrderedTails.{ordered, ordered-line}
+use Rattle.groebner.proofs.OrderedTails.{written, ordered-all, ordered-length, ordered-proper, ordered-falling, tail-all, tail-same, leads-written, each-written, of-written}
 
 -- Lines that rise by leading monomial are different.
 once-rising : {F M : Type 0} {𝓜 : Monomials M} {lt : M → M → Type 0} (ord : MonomialOrder 𝓜 lt) (H : List (Line F M)) → Rising lt H → Once H

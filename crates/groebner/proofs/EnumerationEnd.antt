@@ -23,7 +23,8 @@ use Rattle.groebner.specs.Lines.{Line, Reducible}
 use Rattle.groebner.proofs.Modules.{Module}
 use Rattle.groebner.proofs.Elimination.{Elimination}
 use Rattle.groebner.proofs.Successors.{Successor}
-use Rattle.groebner.proofs.Next.{Ranking, carried, carried-here, carried-zero, next, next-lex}
+use Rattle.groebner.specs.Next.{Ranking, carried, next}
+use Rattle.groebner.proofs.Next.{carried-here, carried-zero, next-lex}
 use Rattle.groebner.proofs.ReducibleTest.{reducible, reducible-iff, irreducible-iff, reducible-closed}
 use Rattle.groebner.proofs.Enumeration.{Progress, extend, visit, after, ToVisit}
 

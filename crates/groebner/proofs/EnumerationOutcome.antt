@@ -1,26 +1,23 @@
 -- What the enumeration yields (T11, T12), for any second order with a successor function: the Conversion in rising order and the standard monomials in
 -- rising order, as many as there are irreducible monomials in the first order.
---   Outcome R n lt lt′ G D H B    what is known of the lines H and the standard monomials B
 --   standard-count                there are as many standard monomials as irreducible ones
 --   seen-outcome                  when all monomials are seen, what is found is an Outcome
 --   enumeration-outcome           with room for D standard monomials the enumeration ends after at most 1 + n·D visits, and its outcome is that
 --   outcome-exists                there is an Outcome
 use mathlib.Core.Path.{_≡_, refl, _∙_, ap}
 use mathlib.Core.Bool.{Bool}
-use mathlib.Core.List.{List, _++_, map}
+use mathlib.Core.List.{List, map}
 use mathlib.Core.Option.{Option, some}
-use Prim.Native.Nat.{ℕ, _+_, _*_, _≤_, _<_}
+use Prim.Native.Nat.{ℕ, _+_, _*_}
 use native.Mathlib.Omega.{arith}
 use lib.ListN.{length, length-map}
 use Rattle.residue.specs.Field.{Arithmetic, Field}
 use Rattle.monomial.specs.Rows.{Row, one, exponent}
 use Rattle.monomial.specs.Ordering.{MonomialOrder, rows}
-use Rattle.groebner.specs.Polynomials.{_∈_}
-use Rattle.groebner.specs.Lines.{Line, polynomial, Reducible, Rising}
+use Rattle.groebner.specs.Lines.{Line, Reducible, Low}
 use Rattle.groebner.specs.Bases.{Groebner}
-use Rattle.groebner.specs.Standard.{Lists, Standard, Conversion}
+use Rattle.groebner.specs.Standard.{Lists}
 use Rattle.groebner.proofs.Ground.{PolynomialRing}
-use Rattle.groebner.proofs.Division.{Low}
 use Rattle.groebner.proofs.Spans.{Shifts}
 use Rattle.groebner.proofs.Images.{image}
 use Rattle.groebner.proofs.Elimination.{Elimination}
@@ -29,7 +26,8 @@ use Rattle.groebner.proofs.RowElimination.{elimination}
 use Rattle.groebner.proofs.CoefficientElimination.{array-elimination}
 use Rattle.groebner.proofs.Coordinates.{sequences, entries, coordinates}
 use Rattle.groebner.proofs.ImageCoordinates.{vector, vector-shifts, vector-units}
-use Rattle.groebner.proofs.RisingLists.{ListsRising, leads}
+use Rattle.groebner.specs.RisingLists.{leads}
+use Rattle.groebner.specs.Enumeration.{Outcome}
 use Rattle.groebner.proofs.Successors.{Successors}
 use Rattle.groebner.proofs.Seen.{AllSeen}
 use Rattle.groebner.proofs.Enumeration.{Progress, begin, run, enumeration}
@@ -37,17 +35,6 @@ use Rattle.groebner.proofs.EnumerationResult.{standard-span, found-expo
 use Rattle.groebner.proofs.EnumerationUnique.{same-standard}
 use Rattle.groebner.proofs.OrderedTails.{written, length-written, leads-written}
 use Rattle.groebner.proofs.EnumerationBasis.{outcome-standard, outcome-rising, outcome-conversion, outcome-terms}
-
--- The lines H and the standard monomials B of the lines G with the order lt, for the order lt′: the Conversion, in rising order, and all D standard
--- monomials, in rising order; at most 1 + (n - 1)·D lines, with exponents up to D and at most 1 + D terms each.
-pub record Outcome {F : Type 0} (R : Arithmetic F) (n : ℕ) (lt lt′ : Row n → Row n → Type 0) (G : List (Line F (Row n))) (D : ℕ) (H : List (Line F (Row n))) (B : List (Row n)) : Type 0 where
-  pub conversion : Conversion R (rows n) lt lt′ G H
-  pub rising : Rising lt′ H
-  pub standard : ListsRising lt′ (Standard R (rows n) lt lt′ G) B
-  pub count : length B ≡ D
-  pub few : 0 < n → length H + D ≤ 1 + n * D
-  pub exponents : (m : Row n) → m ∈ (leads H ++ B) → (i : ℕ) → i < n → exponent n m i ≤ D
-  pub terms : (h : Line F (Row n)) → h ∈ H → length (polynomial R h) ≤ 1 + D
 
 module _ {F : Type 0} {R : Arithmetic F} (field : Field R) where
   open Field field using (ring, decide, reciprocal)

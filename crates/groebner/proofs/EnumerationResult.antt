@@ -25,7 +25,8 @@ use Rattle.groebner.specs.Lines.{Line, Reducible, Rising}
 use Rattle.groebner.proofs.Modules.{Module}
 use Rattle.groebner.proofs.Lists.{in-map}
 use Rattle.groebner.proofs.Spans.{Span, Dependent, Shifts}
-use Rattle.groebner.proofs.RisingLists.{ListsRising, leads, rising-leads}
+use Rattle.groebner.specs.RisingLists.{ListsRising, leads}
+use Rattle.groebner.proofs.RisingLists.{rising-leads}
 use Rattle.groebner.proofs.Counting.{Divisors, exponent-bounded, bound-monotone}
 use Rattle.groebner.proofs.Seen.{Downward, AllSeen, seen-lead, seen-span, seen-divisors, found-few, line-dependent, reducible-dependent}
 

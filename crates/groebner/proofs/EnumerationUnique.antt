@@ -14,7 +14,8 @@ use Rattle.groebner.proofs.Modules.{Module, self, equal-of-difference, 
 use Rattle.groebner.proofs.Linear.{all-append, all-map, all-scale, lin, lin-append, lin-negate}
 use Rattle.groebner.proofs.Terms.{coef-minus}
 use Rattle.groebner.proofs.Spans.{Dependent, Shifts, independent}
-use Rattle.groebner.proofs.RisingLists.{lists-unique, leads}
+use Rattle.groebner.specs.RisingLists.{leads}
+use Rattle.groebner.proofs.RisingLists.{lists-unique}
 use Rattle.groebner.proofs.Seen.{FoundLine, AllSeen}
 use Rattle.groebner.proofs.EnumerationResult.{standard-list, lead-list}
 

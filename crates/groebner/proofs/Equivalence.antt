@@ -11,7 +11,8 @@ use Rattle.groebner.specs.Bases.{Groebner}
 use Rattle.groebner.specs.Systems.{System, Answer, Among, SumIn, ProductIn, Equivalent}
 use Rattle.groebner.proofs.Terms.{clean, clean-proper, clean-same}
 use Rattle.groebner.proofs.Ground.{PolynomialRing}
-use Rattle.groebner.proofs.Division.{Low, remainder, remainder-proper, remainder-finished}
+use Rattle.groebner.specs.Lines.{Low}
+use Rattle.groebner.proofs.Division.{remainder, remainder-proper, remainder-finished}
 use Rattle.groebner.proofs.Congruence.{modulo-same, modulo-sym, modulo-trans, modulo-sum, modulo-product, modulo-remainder, equal-of-modulo, modulo-of-equal}
 
 module _ {F M : Type 0} {R : Arithmetic F} {𝓜 : Monomials M} (𝓟 : PolynomialRing R 𝓜) (A B : System F M) (ordA : MonomialOrder 𝓜 (A .lt)) (ordB : MonomialOrder 𝓜 (B .lt))

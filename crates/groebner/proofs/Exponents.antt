@@ -1,7 +1,4 @@
 -- Monomials with some of their exponents changed.
---   withExponent n v e m    m with the exponent e of variable v
---   raise n v m             x_v·m: the exponent of variable v raised by one
---   clear n s m             m with the exponents of the variables of the list s set to 0
 --   Lowered n m             m is x_v·d for some v and d
 -- Exponents of withExponent: with-same, with-zero, with-other
 -- Of raise: raise-same, raise-other (its exponents), raise-product (it is a product), divides-raise, raise-proper (m is a proper divisor of x_v·m)
@@ -18,23 +15,7 @@ use Rattle.monomial.specs.Ordering.{Divides, rows}
 use Rattle.monomial.proofs.Products.{one-product, divisible-at}
 use Rattle.groebner.specs.Polynomials.{_∈_}
 use Rattle.groebner.specs.Standard.{power}
-
--- m with the exponent e of variable v.
-unfoldable pub withExponent : (n v e : ℕ) → Row n → Row n
-withExponent zero v e m = tt
-withExponent (suc n) zero e m = (e, m .1)
-withExponent (suc n) (suc v) e m = (m .0, withExponent n v e (m .1))
-
--- The exponent of variable v raised by one.
-unfoldable pub raise : (n v : ℕ) → Row n → Row n
-unfolding withExponent exponent
-raise n v m = withExponent n v (suc (exponent n m v)) m
-
--- The exponents of the variables of the list set to 0.
-unfoldable pub clear : (n : ℕ) → List ℕ → Row n → Row n
-unfolding withExponent
-clear n [] m = m
-clear n (v ∷ s) m = withExponent n v 0 (clear n s m)
+use Rattle.groebner.specs.Next.{withExponent, raise, clear}
 
 pub with-same : (n v e : ℕ) (m : Row n) → v < n → exponent n (withExponent n v e m) v ≡ e
 unfolding withExponent exponent

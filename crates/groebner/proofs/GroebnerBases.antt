@@ -12,7 +12,7 @@ use Rattle.residue.specs.Field.{Arithmetic, Field}
 use Rattle.monomial.specs.Ordering.{Monomials, MonomialOrder}
 use Rattle.monomial.proofs.AnyOrder.{irreflexive, asymmetric}
 use Rattle.groebner.specs.Polynomials.{_∈_, Poly, All, all-nil, all-cons, Polynomial, scale, shift, coef, Same}
-use Rattle.groebner.specs.Lines.{Line, polynomial, Reducible}
+use Rattle.groebner.specs.Lines.{Line, polynomial, Reducible, Low}
 use Rattle.groebner.specs.Remainders.{Finished, Step, Remainder, done, step}
 use Rattle.groebner.specs.Ideals.{IdealOf}
 use Rattle.groebner.specs.Bases.{Leading, Groebner}
@@ -20,7 +20,7 @@ use Rattle.groebner.proofs.Modules.{self, zero-add, mul-zero, opposite-
 use Rattle.groebner.proofs.Terms.{find, coef-nil, coef-absent, coef-minus, coef-scale, no-term, nil-of-zero, clean, clean-proper, clean-same}
 use Rattle.groebner.proofs.NormalForms.{Rewriting, line, multiple, combination, Member, member-add, member-neg, member-same, member-of-NF, NF, NF-same, residue}
 use Rattle.groebner.proofs.Ground.{PolynomialRing}
-use Rattle.groebner.proofs.Division.{Top, top, flat, scan, Place, Low, rewriting, reducible?, earliest-in, coef-above, remainder, remainder-NF, remainder-proper, remainder-finished}
+use Rattle.groebner.proofs.Division.{Top, top, flat, scan, Place, rewriting, reducible?, earliest-in, coef-above, remainder, remainder-NF, remainder-proper, remainder-finished}
 use Rattle.groebner.proofs.Ideals.{ideal-same, member-of-ideal, ideal-of-member, coef-combination-nil, coef-combination-cons}
 
 module _ {F M : Type 0} {R : Arithmetic F} {𝓜 : Monomials M} {lt : M → M → Type 0} (𝓟 : PolynomialRing R 𝓜) (ord : MonomialOrder 𝓜 lt) (G : List (Line F M)) (low : Low lt G) where

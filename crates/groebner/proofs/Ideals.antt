@@ -6,14 +6,14 @@ use mathlib.Core.List.{List, [], _∷_, _++_, map, List·Memᴰ·head, List·Mem
 use Rattle.residue.specs.Field.{Arithmetic, Ring, Field}
 use Rattle.monomial.specs.Ordering.{Monomials, MonomialOrder}
 use Rattle.groebner.specs.Polynomials.{_∈_, Poly, scale, expand, shift, times, δ, coef, Same}
-use Rattle.groebner.specs.Lines.{Line, polynomial}
+use Rattle.groebner.specs.Lines.{Line, polynomial, Low}
 use Rattle.groebner.specs.Ideals.{combine, Ideal, IdealOf}
 use Rattle.groebner.proofs.Modules.{self, plus-medial, zero-add}
 use Rattle.groebner.proofs.Linear.{all-true, lin, lin-append, coef-lin}
 use Rattle.groebner.proofs.Terms.{coef-nil, coef-append, coef-shift, coef-times}
 use Rattle.groebner.proofs.NormalForms.{Rewriting, line, multiple, combination, Member, member-zero, member-add, member-multiple, member-same, member-lin, member-shift}
 use Rattle.groebner.proofs.Ground.{PolynomialRing}
-use Rattle.groebner.proofs.Division.{Place, Low, rewriting}
+use Rattle.groebner.proofs.Division.{Place, rewriting}
 
 -- Sums of cofactors.
 module _ {F M : Type 0} {R : Arithmetic F} (ring : Ring R) (𝓜 : Monomials M) where

@@ -14,7 +14,7 @@ use lib.ListN.{length}
 use Rattle.residue.specs.Field.{Arithmetic, Field}
 use Rattle.monomial.specs.Ordering.{Monomials, MonomialOrder}
 use Rattle.groebner.specs.Polynomials.{_∈_, Poly, coef}
-use Rattle.groebner.specs.Lines.{Line, Reducible}
+use Rattle.groebner.specs.Lines.{Line, Reducible, Low}
 use Rattle.groebner.specs.Remainders.{done}
 use Rattle.groebner.specs.Bases.{Groebner}
 use Rattle.groebner.specs.Standard.{Lists}
@@ -22,7 +22,7 @@ use Rattle.groebner.proofs.Linear.{all-map, lin}
 use Rattle.groebner.proofs.Terms.{coef-nil, coef-here, coef-there, coef-absent}
 use Rattle.groebner.proofs.NormalForms.{nf-irreducible}
 use Rattle.groebner.proofs.Ground.{PolynomialRing}
-use Rattle.groebner.proofs.Division.{Low, rewriting}
+use Rattle.groebner.proofs.Division.{rewriting}
 use Rattle.groebner.proofs.Spans.{Dependent, Shifts}
 use Rattle.groebner.proofs.Images.{𝓕, image, image-remainder, image-shifts}
 use Rattle.groebner.proofs.LinearMaps.{Faithful, span-along, span-back, zero-back, shifts-along}

@@ -8,22 +8,22 @@
 --   image-equation           on a Groebner basis: equal images exactly if the difference lies in the ideal
 --   image-shifts             on a Groebner basis: an equation between images holds of the multiples too
 use mathlib.Core.Path.{_≡_, refl, sym, _∙_, ap, ap₂, subst, fun-ext}
-use mathlib.Core.List.{List, [], _∷_, _++_}
+use mathlib.Core.List.{List, [], _∷_}
 use mathlib.Core.Logic.{_↔_}
 use Rattle.residue.specs.Field.{Arithmetic, Ring, Field}
 use Rattle.monomial.specs.Ordering.{Monomials, MonomialOrder}
-use Rattle.groebner.specs.Polynomials.{Poly, All, all-nil, all-cons, Polynomial, relabel, scale, negate, minus, shift, coef, Same}
-use Rattle.groebner.specs.Lines.{Line}
+use Rattle.groebner.specs.Polynomials.{Poly, All, all-nil, all-cons, Polynomial, relabel, scale, negate, minus, shift, coef}
+use Rattle.groebner.specs.Lines.{Line, Low}
 use Rattle.groebner.specs.Remainders.{Remainder}
 use Rattle.groebner.specs.Ideals.{IdealOf}
 use Rattle.groebner.specs.Bases.{Groebner}
-use Rattle.groebner.specs.Standard.{RemainderOf, Smaller, combination, Standard}
+use Rattle.groebner.specs.Standard.{Smaller, combination, Standard}
 use Rattle.groebner.proofs.Modules.{Module, self, functions}
 use Rattle.groebner.proofs.Linear.{lin}
 use Rattle.groebner.proofs.Terms.{coef-nil, coef-append, coef-scale}
 use Rattle.groebner.proofs.NormalForms.{Rewriting, nf, nfc, NF, NF-coef, Member, member-shift}
 use Rattle.groebner.proofs.Ground.{PolynomialRing}
-use Rattle.groebner.proofs.Division.{Place, Low, rewriting, remainder, remainder-NF}
+use Rattle.groebner.proofs.Division.{Place, rewriting, remainder, remainder-NF}
 use Rattle.groebner.proofs.Ideals.{member-of-ideal, ideal-of-member}
 use Rattle.groebner.proofs.GroebnerBases.{groebner-NF}
 use Rattle.groebner.proofs.Congruence.{agree-of-member, member-of-agree}

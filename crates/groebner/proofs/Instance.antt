@@ -21,13 +21,12 @@ use Rattle.monomial.specs.Ordering.{rows, Lex, Grevlex}
 use Rattle.monomial.proofs.Products.{rows-laws}
 use Rattle.monomial.proofs.LexOrder.{lex-order}
 use Rattle.monomial.proofs.GrevlexOrder.{grevlex-order}
-use Rattle.groebner.specs.Lines.{Line, Lines, Reducible, Rising}
+use Rattle.groebner.specs.Lines.{Line, Lines, Reducible, Rising, Low}
 use Rattle.groebner.specs.Ideals.{SameIdeal}
 use Rattle.groebner.specs.Bases.{Groebner, Reduced, Buchberger}
 use Rattle.groebner.specs.Standard.{Lists, Standard, Conversion}
 use Rattle.groebner.specs.Systems.{Equivalent}
 use Rattle.groebner.proofs.Ground.{PolynomialRing}
-use Rattle.groebner.proofs.Division.{Low}
 use Rattle.groebner.proofs.Buchberger.{buchberger}
 use Rattle.groebner.proofs.ChangeOfOrder.{conversion-ideal, conversion-standard, conversion-reduced}
 use Rattle.groebner.proofs.Uniqueness.{unique-basis}
@@ -36,10 +35,12 @@ use Rattle.groebner.proofs.Elimination.{Elimination}
 use Rattle.groebner.proofs.CoefficientElimination.{array-elimination}
 use Rattle.groebner.proofs.Coordinates.{sequences}
 use Rattle.groebner.proofs.ImageCoordinates.{vector}
-use Rattle.groebner.proofs.Next.{Ranking, next, next-lex}
+use Rattle.groebner.specs.Next.{Ranking, next}
+use Rattle.groebner.proofs.Next.{next-lex}
 use Rattle.groebner.proofs.Enumeration.{Progress, begin, run}
+use Rattle.groebner.specs.Enumeration.{Outcome}
 use Rattle.groebner.proofs.OrderedTails.{written}
-use Rattle.groebner.proofs.EnumerationOutcome.{Outcome, enumeration-outcome}
+use Rattle.groebner.proofs.EnumerationOutcome.{enumeration-outcome}
 
 module _ (p : ℕ) (prime : Prime p) (n : ℕ) where
   abbrev F : Type 0

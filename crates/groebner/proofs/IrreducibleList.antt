@@ -1,7 +1,5 @@
 -- All monomials that are not excluded, in rising order, or more of them than a given number (document 01, refusal 14), for any monomial
 -- ordering with a successor function.
---   collect n next excluded most l m     those from m on, at most that many, behind the smaller ones in l
---   irreducibles n next excluded most    all of them, or none if they are more than that many
 --   Counts lt P most x                   x lists the monomials that have P, at most that many; or x is none, and more have P
 --   counts-iff                           that depends on P only up to equivalence
 --   counts-more                          where more have P, every list of them is longer
@@ -22,20 +20,11 @@ use Rattle.monomial.proofs.Products.{exponent-one, divisible-at, rows-laws}
 use Rattle.groebner.specs.Polynomials.{_∈_}
 use Rattle.groebner.specs.Lines.{Line, Reducible}
 use Rattle.groebner.proofs.Lists.{pigeon}
-use Rattle.groebner.proofs.RisingLists.{RisingList, ListsRising, rising-append, rising-once}
+use Rattle.groebner.specs.RisingLists.{RisingList, ListsRising}
+use Rattle.groebner.specs.Next.{collect, irreducibles}
+use Rattle.groebner.proofs.RisingLists.{rising-append, rising-once}
 use Rattle.groebner.proofs.Successors.{Closed, Successor, Successors, UpTo, Precedes, precedes-of-up-to, up-to-of-precedes}
 use Rattle.groebner.proofs.ReducibleTest.{reducible, irreducible-iff, reducible-closed}
-
-module _ (n : ℕ) (next : (Row n → Bool) → Row n → Option (Row n)) (excluded : Row n → Bool) where
-  -- From m on, at most that many, behind the smaller ones.
-  unfoldable pub collect : ℕ → List (Row n) → Row n → Option (List (Row n))
-  collect zero l m = none
-  collect (suc most) l m = elim (next excluded m) [ none ↦ some (l ++ (m ∷ [])) | some r ↦ collect most (l ++ (m ∷ [])) r ]
-
-  -- All monomials that are not excluded, if they are at most that many.
-  unfoldable pub irreducibles : ℕ → Option (List (Row n))
-  unfolding collect one
-  irreducibles most = elim (excluded (one n)) [ true ↦ some [] | false ↦ collect most [] (one n) ]
 
 -- At most that many monomials have P, and x lists them; or x is none, and more have P.
 abbrev pub Counts : {M : Type 0} → (M → M → Type 0) → (M → Type 0) → ℕ → Option (List M) → Type 0

@@ -10,13 +10,12 @@ use Rattle.residue.specs.Field.{Arithmetic, Ring, Field}
 use Rattle.monomial.specs.Ordering.{Monomials, MonomialOrder}
 use Rattle.monomial.proofs.AnyOrder.{irreflexive, asymmetric}
 use Rattle.groebner.specs.Polynomials.{_∈_, Poly, All, Polynomial, coef, Same}
-use Rattle.groebner.specs.Lines.{Line, polynomial, Falling, Lines}
+use Rattle.groebner.specs.Lines.{Line, polynomial, Falling, Lines, Low}
 use Rattle.groebner.specs.Ideals.{IdealOf}
 use Rattle.groebner.specs.Bases.{Leading}
 use Rattle.groebner.proofs.Linear.{all-map}
 use Rattle.groebner.proofs.Terms.{coef-nil, coef-here, coef-there, coef-absent}
 use Rattle.groebner.proofs.Ground.{PolynomialRing}
-use Rattle.groebner.proofs.Division.{Low}
 use Rattle.groebner.proofs.Ideals.{member-line, ideal-of-member}
 
 module _ {F M : Type 0} {R : Arithmetic F} (ring : Ring R) {𝓜 : Monomials M} {lt : M → M → Type 0} (ord : MonomialOrder 𝓜 lt) where

@@ -1,8 +1,5 @@
 -- Multiplication rows, by numbers: the check that lines are a Groebner basis (document 01, refusal 15), and the normal forms that the rows hold.
 -- B lists the irreducible monomials, B_s is the one at place s (d stands past the end), and cell i s k is the coordinate at B_k of the row of x_i·B_s.
---   multiply R D cell i w          Σ w(r)·cell i r k over the places r below D: the coordinates of x_i times what has the coordinates w
---   RowsCommute R n D cell         the rows commute: M_i M_j B_s = M_j M_i B_s for i < j
---   Filled R n G B d cell i s      how the row of x_i·B_s is filled: a unit row, minus the tail of a line, or the product of rows filled before
 --   NormalRow n 𝓟 ord G low B d    w holds the coordinates of the normal form of m
 --   rows-commute-iff               the rows commute exactly if the lines are a Groebner basis
 --   row-holds                      of a Groebner basis, the row of x_i·B_s holds the normal form of x_i·B_s
@@ -21,7 +18,7 @@ use Rattle.monomial.specs.Rows.{Row, one, product}
 use Rattle.monomial.specs.Ordering.{MonomialOrder, rows}
 use Rattle.monomial.proofs.Products.{product-comm, one-product}
 use Rattle.groebner.specs.Polynomials.{_∈_, All, δ, coef}
-use Rattle.groebner.specs.Lines.{Line, Reducible}
+use Rattle.groebner.specs.Lines.{Line, Reducible, Low}
 use Rattle.groebner.specs.Bases.{Clear, Groebner}
 use Rattle.groebner.specs.Standard.{Lists}
 use Rattle.groebner.proofs.Modules.{Module, self, functions, opposite-null}
@@ -29,36 +26,18 @@ use Rattle.groebner.proofs.Linear.{all-map}
 use Rattle.groebner.proofs.Terms.{δ-same, δ-other, coef-absent}
 use Rattle.groebner.proofs.NormalForms.{nf}
 use Rattle.groebner.proofs.Ground.{PolynomialRing}
-use Rattle.groebner.proofs.Division.{Low, rewriting, reducible?}
+use Rattle.groebner.proofs.Division.{rewriting, reducible?}
 use Rattle.groebner.proofs.LinearMaps.{LinearMap}
 use Rattle.groebner.proofs.Images.{𝓕}
-use Rattle.groebner.proofs.Variables.{variable, apply, Commuting, apply-induction}
+use Rattle.groebner.specs.Variables.{variable}
+use Rattle.groebner.proofs.Variables.{apply, Commuting, apply-induction}
 use Rattle.groebner.proofs.NormalCoefficients.{irreducible-divisor, unit, image-unit}
+use Rattle.groebner.specs.MultiplicationRows.{dot, multiply, RowsCommute, product-at, Filled}
+use Rattle.groebner.specs.MultiplicationRows.Filled.{as-unit, as-tail, as-product}
 use Rattle.groebner.proofs.Commute.{Rule, unit-rule, tail-rule, product-rule, Multiplication, groebner-of-commuting, operator-image, operator-next, commuting-of-groebner}
-use Rattle.groebner.proofs.DotProducts.{dot, dot-on, dot-comm, dot-add, dot-mul, dot-none, dot-only, dot-assoc}
+use Rattle.groebner.proofs.DotProducts.{dot-on, dot-comm, dot-add, dot-mul, dot-none, dot-only, dot-assoc}
 use Rattle.groebner.proofs.Places.{at-in, place-of, at-once}
 use Rattle.groebner.proofs.ClearLines.{minimal-of-clear, tails-of-clear}
-
-module _ {F : Type 0} (R : Arithmetic F) where
-  -- The coordinates of x_i times what has the coordinates w.
-  abbrev pub multiply : ℕ → (ℕ → ℕ → ℕ → F) → ℕ → (ℕ → F) → ℕ → F
-  multiply D cell i w k = dot R D w (λ r. cell i r k)
-
-  -- The rows commute.
-  abbrev pub RowsCommute : ℕ → ℕ → (ℕ → ℕ → ℕ → F) → Type 0
-  RowsCommute n D cell = (i j : ℕ) → i < j → j < n → (s : ℕ) → s < D → (k : ℕ) → k < D → multiply D cell i (cell j s) k ≡ multiply D cell j (cell i s) k
-
-  module _ (n : ℕ) (G : List (Line F (Row n))) (B : List (Row n)) (d : Row n) (cell : ℕ → ℕ → ℕ → F) where
-    -- x_i·B_s
-    abbrev product-at : ℕ → ℕ → Row n
-    product-at i s = product n (variable n i) (getD B s d)
-
-    -- How the row of x_i·B_s is filled.
-    pub data Filled (i s : ℕ) : Type 0 where
-      as-unit : ¬ Reducible (rows n) G (product-at i s) → ((k : ℕ) → k < length B → cell i s k ≡ δ R (rows n) (getD B k d) (product-at i s)) → Filled i s
-      as-tail : (g : Line F (Row n)) → g ∈ G → product-at i s ≡ g .0 → ((k : ℕ) → k < length B → cell i s k ≡ R .neg (coef R (rows n) (g .1) (getD B k d))) → Filled i s
-      as-product : (j : ℕ) → j < n → (t : ℕ) → t < length B → getD B s d ≡ product-at j t → Reducible (rows n) G (product-at i t)
-          → ((k : ℕ) → k < length B → cell i s k ≡ multiply (length B) cell j (cell i t) k) → Filled i s
 
 module _ {F : Type 0} {R : Arithmetic F} (n : ℕ) {lt : Row n → Row n → Type 0} (𝓟 : PolynomialRing R (rows n)) (ord : MonomialOrder (rows n) lt) (G : List (Line F (Row n))) (low : Low lt G)
     (B : List (Row n)) (d : Row n) where

@@ -1,7 +1,4 @@
 -- The next monomial in lex that is not excluded, for every ranking s of the variables.
---   Ranking n s             s ranks the n variables, greatest first: each stands in it once
---   carried n v s m         m with the exponents of the variables of s set to 0, and that of v raised by one
---   next n s excluded m     raise the exponent of the last variable of s; while the outcome is excluded, set it to 0 and raise the one before
 --   next-append             a successor found among the last variables is the successor
 --   carried-here            the exponent of v in carried
 --   carried-zero            those of s
@@ -24,27 +21,9 @@ use Rattle.monomial.proofs.Comparisons.{equal-not-less}
 use Rattle.monomial.proofs.LexOrder.{lex-cons-less, variables-rank}
 use Rattle.groebner.specs.Polynomials.{_∈_}
 use Rattle.groebner.specs.Lines.{Once}
-use Rattle.groebner.specs.Standard.{Lists}
-use Rattle.groebner.proofs.Exponents.{raise, clear, raise-same, raise-other, clear-in, clear-out}
+use Rattle.groebner.specs.Next.{raise, clear, Ranking, carried, next}
+use Rattle.groebner.proofs.Exponents.{raise-same, raise-other, clear-in, clear-out}
 use Rattle.groebner.proofs.Successors.{Closed, Successor, Successors}
-
--- s ranks the n variables, greatest first: each stands in it once.
-abbrev pub Ranking : ℕ → List ℕ → Type 0
-Ranking n s = Lists (λ v. v < n) s
-
--- The exponents of the variables of s set to 0, and that of v raised by one.
-unfoldable pub carried : (n v : ℕ) → List ℕ → Row n → Row n
-unfolding raise clear
-carried n v s m = raise n v (clear n s m)
-
--- Raise the exponent of the last variable of s; while the outcome is excluded, set it to 0 and raise the one before.
-unfoldable pub next : (n : ℕ) → List ℕ → (Row n → Bool) → Row n → Option (Row n)
-unfolding carried
-next n [] excluded m = none
-next n (v ∷ s) excluded m = elim (next n s excluded m) [
-  | none ↦ let r = carried n v s m in elim (excluded r) [ true ↦ none | false ↦ some r ]
-  | some r ↦ some r
-]
 
 pub next-append : (n : ℕ) (t s : List ℕ) (excluded : Row n → Bool) (m r : Row n) → next n s excluded m ≡ some r → next n (t ++ s) excluded m ≡ some r
 unfolding next

@@ -20,7 +20,7 @@ use mathlib.Core.WellFounded.{WellFounded·induction}
 use Rattle.residue.specs.Field.{Arithmetic, Ring, Field}
 use Rattle.monomial.specs.Ordering.{Monomials, MonomialOrder}
 use Rattle.groebner.specs.Polynomials.{_∈_, Poly, All, all-nil, all-cons, negate, shift, δ, coef}
-use Rattle.groebner.specs.Lines.{Line, polynomial, Reducible}
+use Rattle.groebner.specs.Lines.{Line, polynomial, Reducible, Low}
 use Rattle.groebner.specs.Bases.{Groebner}
 use Rattle.groebner.proofs.Modules.{Module, self, functions, equal-of-difference, opposite-unique}
 use Rattle.groebner.proofs.Linear.{all-map, all-true, all-scale, all-expand, lin, lin-append, lin-negate, lin-relabel, lin-expand, lin-on, coef-lin, lin-same}
@@ -28,7 +28,7 @@ use Rattle.groebner.proofs.Terms.{coef-minus}
 use Rattle.groebner.proofs.NormalForms.{Pick, found, stuck, Rewriting, line, multiple, nf, NF, nf-found, nf-stuck, nf-irreducible, NF-fixed, Irreducible, combination, Member, member-same, member-shift, residue}
 use Rattle.groebner.proofs.SPairs.{combination-zero}
 use Rattle.groebner.proofs.Ground.{PolynomialRing, divides-trans}
-use Rattle.groebner.proofs.Division.{Place, Low, rewriting, shift-below}
+use Rattle.groebner.proofs.Division.{Place, rewriting, shift-below}
 use Rattle.groebner.proofs.Ideals.{member-line}
 use Rattle.groebner.proofs.GroebnerBases.{groebner-NF}
 use Rattle.groebner.proofs.Images.{lin-at, 𝓕, image, image-NF}

@@ -8,7 +8,7 @@ use mathlib.Core.List.{List, []}
 use Rattle.residue.specs.Field.{Arithmetic, Field}
 use Rattle.monomial.specs.Ordering.{Monomials, MonomialOrder}
 use Rattle.groebner.specs.Polynomials.{_∈_, Poly, Polynomial, coef}
-use Rattle.groebner.specs.Lines.{Line, polynomial}
+use Rattle.groebner.specs.Lines.{Line, polynomial, Low}
 use Rattle.groebner.specs.Remainders.{Finished, Remainder}
 use Rattle.groebner.specs.Ideals.{IdealOf, SameIdeal}
 use Rattle.groebner.specs.Bases.{Groebner}
@@ -16,7 +16,7 @@ use Rattle.groebner.proofs.Modules.{self, undo-difference}
 use Rattle.groebner.proofs.Terms.{clean, clean-proper, clean-same}
 use Rattle.groebner.proofs.NormalForms.{Rewriting, line, Member, member-add, member-neg, member-same}
 use Rattle.groebner.proofs.Ground.{PolynomialRing}
-use Rattle.groebner.proofs.Division.{Place, Low, rewriting, remainder, remainder-proper, remainder-finished}
+use Rattle.groebner.proofs.Division.{Place, rewriting, remainder, remainder-proper, remainder-finished}
 use Rattle.groebner.proofs.Ideals.{ideal-same, member-of-ideal, ideal-of-member}
 use Rattle.groebner.proofs.GroebnerBases.{remainder-member, ideal-of-zero, groebner-of-zero}
 use Rattle.groebner.proofs.Congruence.{into}

@@ -16,13 +16,12 @@ use Rattle.monomial.specs.Rows.{Row, exponent}
 use Rattle.monomial.specs.Ordering.{Divides, rows, row?, MonomialOrder}
 use Rattle.monomial.proofs.Products.{exponent-product, divisible-at}
 use Rattle.groebner.specs.Polynomials.{_∈_, All, all-cons}
-use Rattle.groebner.specs.Lines.{Once, Before, Line, polynomial}
+use Rattle.groebner.specs.Lines.{Once, Before, Line, polynomial, Low}
 use Rattle.groebner.specs.Bases.{Clear, Groebner}
 use Rattle.groebner.specs.Standard.{power, ZeroDimensional}
 use Rattle.groebner.proofs.Ground.{PolynomialRing}
 use Rattle.groebner.proofs.Lists.{pigeon, in-map, of-map}
 use Rattle.groebner.proofs.Members.{member?}
-use Rattle.groebner.proofs.Division.{Low}
 use Rattle.groebner.proofs.Buchberger.{before-or, before-in}
 use Rattle.groebner.proofs.Powers.{exponent-power, exponent-power-other, power-divides}
 use Rattle.groebner.proofs.CoprimeLeads.{Coprime, coprime-groebner}

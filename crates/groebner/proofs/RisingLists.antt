@@ -1,12 +1,9 @@
 -- Rising lists of monomials, for any order.
---   RisingList lt l      each element of l is smaller than all that follow it
 --   rising-append        a rising list, and a greater element at its end
 --   rising-once          no element stands twice in a rising list
 --   rising-unique        rising lists with the same elements are equal
---   ListsRising lt P l   l lists the monomials that have P, in rising order
 --   lists-once           it lists each once
 --   lists-unique         at most one list does so
---   leads G              the leading monomials of the lines G
 --   leads-append         those of the lines G and of one more
 --   rising-leads         lines rise by leading monomial if their leading monomials do
 use mathlib.Core.Path.{_≡_, refl, sym, _∙_, ap, ap₂, subst}
@@ -17,18 +14,8 @@ use Rattle.monomial.proofs.AnyOrder.{asymmetric, irreflexive}
 use Rattle.groebner.specs.Polynomials.{_∈_}
 use Rattle.groebner.specs.Lines.{Once, Line, Rising}
 use Rattle.groebner.specs.Standard.{Lists}
+use Rattle.groebner.specs.RisingLists.{RisingList, ListsRising, leads}
 use Rattle.groebner.proofs.Lists.{in-map}
-
--- Each element is smaller than all that follow it.
-abbrev pub RisingList : {M : Type 0} → (M → M → Type 0) → List M → Type 0
-RisingList lt [] = Unit
-RisingList {M} lt (x ∷ l) = ((y : M) → y ∈ l → lt x y) × RisingList lt l
-
--- The monomials that have P, in rising order.
-pub record ListsRising {M : Type 0} (lt : M → M → Type 0) (P : M → Type 0) (l : List M) : Type 0 where
-  pub rising : RisingList lt l
-  pub all : (k : M) → P k → k ∈ l
-  pub only : (k : M) → k ∈ l → P k
 
 pub rising-append : {M : Type 0} (lt : M → M → Type 0) (l : List M) (z : M) → RisingList lt l → ((y : M) → y ∈ l → lt y z) → RisingList lt (l ++ (z ∷ []))
 rising-append lt [] z r h = (λ y i. absurd (List·Memᴰ·not-nil i), tt)
@@ -72,10 +59,6 @@ module _ {M : Type 0} {𝓜 : Monomials M} {lt : M → M → Type 0} (ord : Mono
   lists-unique P l k p q = rising-unique l k (p .rising) (q .rising) (λ z i. q .all z (p .only z i)) (λ z i. p .all z (q .only z i))
 
 module _ {F M : Type 0} where
-  -- The leading monomials of the lines.
-  abbrev pub leads : List (Line F M) → List M
-  leads G = map (λ g. g .0) G
-
   pub leads-append : (G : List (Line F M)) (g : Line F M) → leads (G ++ (g ∷ [])) ≡ leads G ++ (g .0 ∷ [])
   leads-append [] g = refl
   leads-append (h ∷ G) g = ap (_∷_ (h .0)) (leads-append G g)

@@ -2,7 +2,6 @@
 --   Pivot 𝓐 D w o              o is a place below D where the vector w is not zero, or none and w is zero
 --   Vectors 𝓐 D                vectors as a program holds them
 --   Combinations 𝓥 L D         combinations of the images of found monomials as a program holds them
---   Augmented A C              a vector with a combination beside it; AugmentedRow 𝓡 𝓒: one that is held so
 --   Rows 𝓡 𝓒                   the state: augmented rows with their pivots
 --   subtract-row 𝓡 𝓒 x c y     x - c·y, of the vector and of the combination
 --   multiply-row 𝓡 𝓒 c x       c·x, of the vector and of the combination
@@ -30,7 +29,8 @@ use Rattle.groebner.proofs.Linear.{lin}
 use Rattle.groebner.proofs.Members.{each-inserted}
 use Rattle.groebner.proofs.Spans.{Span}
 use Rattle.groebner.proofs.Elimination.{Added, Elimination}
-use Rattle.groebner.proofs.Echelon.{CoordinateFunctions, Pivoted, subtract, part, reduce, new-row, insert, at-null, Echelon, reduce-span, few-rows, add-row, no-rows}
+use Rattle.groebner.specs.CoefficientRows.{Pivoted, Augmented}
+use Rattle.groebner.proofs.Echelon.{CoordinateFunctions, subtract, part, reduce, new-row, insert, at-null, Echelon, reduce-span, few-rows, add-row, no-rows}
 
 -- A place below D where w is not zero; there is none only if w is zero.
 abbrev pub Pivot : {F W : Type 0} {R : Arithmetic F} {𝓥 : Module R W} → CoordinateFunctions 𝓥 → ℕ → W → Option ℕ → Type 0
@@ -76,11 +76,6 @@ pub record Combinations {F M W : Type 0} {R : Arithmetic F} (𝓥 : Module R W) 
   pub fits-extend : (k : ℕ) (c : Combination) → Fits k c → Fits (suc k) c
   pub fits-subtract : (k : ℕ) (a : Combination) (x : F) (b : Combination) → Fits k a → Fits k b → Fits k (subtract-multiple a x b)
   pub fits-multiply : (k : ℕ) (x : F) (a : Combination) → Fits k a → Fits k (multiply x a)
-
--- A vector with a combination beside it.
-pub record Augmented (A C : Type 0) : Type 0 where
-  pub vector : A
-  pub combination : C
 
 module _ {F M W : Type 0} {R : Arithmetic F} {𝓥 : Module R W} {𝓐 : CoordinateFunctions 𝓥} {L : M → W} {D : ℕ} (𝓡 : Vectors 𝓐 D) (𝓒 : Combinations 𝓥 L D) where
   open Vectors 𝓡 using (Vector, value, entry)

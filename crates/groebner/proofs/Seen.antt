@@ -34,7 +34,8 @@ use Rattle.groebner.proofs.Ground.{divides-trans}
 use Rattle.groebner.proofs.Linear.{all-map, all-scale, lin, lin-negate}
 use Rattle.groebner.proofs.Lists.{once-append, of-map}
 use Rattle.groebner.proofs.Spans.{Span, span-one, span-trans, Dependent, Shifts, dependent-up}
-use Rattle.groebner.proofs.RisingLists.{RisingList, rising-append, rising-once, leads, leads-append}
+use Rattle.groebner.specs.RisingLists.{RisingList, leads}
+use Rattle.groebner.proofs.RisingLists.{rising-append, rising-once, leads-append}
 use Rattle.groebner.proofs.Counting.{Divisors, few-above}
 use Rattle.groebner.proofs.Successors.{Successor, UpTo, Precedes, precedes-of-up-to, up-to-of-precedes}
 use Rattle.groebner.proofs.ReducibleTest.{reducible, reducible-iff}

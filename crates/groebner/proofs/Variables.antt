@@ -1,5 +1,4 @@
 -- The variables: operators that stand for them, induction over them, and taking one off a monomial.
---   variable n i           variable i
 --   iterate A k w          A (A (.. w)), k times
 --   apply n A m w          A_0^(m_0) (A_1^(m_1) (.. w)) for the exponents of m
 --   Commuting n A          the operators of the n variables commute
@@ -27,11 +26,8 @@ use Rattle.monomial.proofs.AnyOrder.{divisor-below}
 use Rattle.groebner.specs.Polynomials.{_∈_}
 use Rattle.groebner.specs.Lines.{Line, Reducible}
 use Rattle.groebner.specs.Standard.{power}
+use Rattle.groebner.specs.Variables.{variable}
 use Rattle.groebner.proofs.Powers.{exponent-power, exponent-power-other, power-divides}
-
--- Variable i, counted from 0.
-abbrev pub variable : (n : ℕ) → ℕ → Row n
-variable n i = power n i 1
 
 -- Operators, one for each variable.
 module _ {W : Type 0} where

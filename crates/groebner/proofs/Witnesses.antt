@@ -12,7 +12,7 @@ use mathlib.Core.Logic.{_⊎_, inl, inr}
 use Rattle.residue.specs.Field.{Arithmetic, Field}
 use Rattle.monomial.specs.Ordering.{Monomials, MonomialOrder}
 use Rattle.groebner.specs.Polynomials.{_∈_, Poly, Same, coef, scale, minus, shift}
-use Rattle.groebner.specs.Lines.{Before, Line, polynomial}
+use Rattle.groebner.specs.Lines.{Before, Line, polynomial, Low}
 use Rattle.groebner.specs.Remainders.{Remainder}
 use Rattle.groebner.specs.Bases.{SPolynomial, Buchberger}
 use Rattle.groebner.specs.Standard.{Smaller, RemainderOf, Standard, combination}
@@ -20,7 +20,7 @@ use Rattle.groebner.proofs.Modules.{mul-zero}
 use Rattle.groebner.proofs.Terms.{coef-nil, coef-append, coef-scale}
 use Rattle.groebner.proofs.NormalForms.{NF-same}
 use Rattle.groebner.proofs.Ground.{PolynomialRing, cancel-right, divides-antisym}
-use Rattle.groebner.proofs.Division.{Low, rewriting, remainder-NF}
+use Rattle.groebner.proofs.Division.{rewriting, remainder-NF}
 use Rattle.groebner.proofs.GroebnerBases.{zero-remainder}
 
 -- Each element has P.

@@ -5,6 +5,13 @@
 --   Ideals        the ideal of a list of lines
 --   Bases         Groebner bases, reduced Groebner bases, S-polynomials
 --   Standard      zero-dimensional lists of lines; standard monomials
+--   RisingLists   rising lists of monomials
+--   Variables     the variables as monomials
+--   Next          the next monomial in lex, and all monomials in turn
+--   MultiplicationRows   the products of the irreducible monomials with the variables, as coordinates
+--   CoefficientRows   rows of coefficients
+--   OrderedTails  lines with their tails in a given order
+--   Enumeration   what the enumeration yields
 --   Systems       reduction systems (document 01: calculators), and what two of them share
 pub mod Polynomials
 pub mod Lines
@@ -12,4 +19,11 @@ pub mod Remainders
 pub mod Ideals
 pub mod Bases
 pub mod Standard
+pub mod RisingLists
+pub mod Variables
+pub mod Next
+pub mod MultiplicationRows
+pub mod CoefficientRows
+pub mod OrderedTails
+pub mod Enumeration
 pub mod Systems

@@ -7,6 +7,7 @@
 --   Reducible 𝓜 G m    some leading monomial divides m
 --   Earliest 𝓜 m g G   g is the earliest line of G whose leading monomial divides m
 --   Rising lt G        the lines rise by leading monomial
+--   Low lt G           the tail of each line is below its leading monomial
 --   Before f g l       f stands before g in the list
 use mathlib.Core.Path.{_≡_}
 use mathlib.Core.List.{List, [], _∷_}
@@ -57,3 +58,7 @@ module _ {F M : Type 0} (𝓜 : Monomials M) where
 abbrev pub Rising : {F M : Type 0} → (M → M → Type 0) → List (Line F M) → Type 0
 Rising lt [] = Unit
 Rising {F} {M} lt (g ∷ G) = ((h : Line F M) → h ∈ G → lt (g .0) (h .0)) × Rising lt G
+
+-- The tail of each line is below its leading monomial.
+abbrev pub Low : {F M : Type 0} → (M → M → Type 0) → List (Line F M) → Type 0
+Low {F} {M} lt G = (g : Line F M) → g ∈ G → All (λ m. lt m (g .0)) (g .1)

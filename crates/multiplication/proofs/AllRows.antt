@@ -21,8 +21,8 @@ use Rattle.monomial.specs.Sizes.{most-variables}
 use Rattle.monomial.specs.Rows.{one}
 use Rattle.monomial.specs.Ordering.{Grevlex}
 use Rattle.monomial.proofs.GrevlexOrder.{grevlex-order}
-use Rattle.groebner.proofs.Division.{Low}
-use Rattle.groebner.proofs.MultiplicationRows.{Filled}
+use Rattle.groebner.specs.Lines.{Low}
+use Rattle.groebner.specs.MultiplicationRows.{Filled}
 use Rattle.tabtext.specs.Sizes.{most-standard}
 use Rattle.basis.specs.Held.{Basis}
 use Rattle.reduction.specs.Generators.{residue}

@@ -8,7 +8,7 @@ use native.Mathlib.Decide.{decLt}
 use native.Mathlib.Omega.{arith}
 use Rattle.residue.specs.Field.{modulo}
 use Rattle.tabtext.specs.Sizes.{most-standard}
-use Rattle.groebner.proofs.MultiplicationRows.{RowsCommute}
+use Rattle.groebner.specs.MultiplicationRows.{RowsCommute}
 use Rattle.reduction.specs.Generators.{residue}
 use Rattle.multiplication.specs.Rows.{coordinate, RowOf, coordinatesOf, cellOf, Multiplied, CommuteAt, Tables}
 use Rattle.multiplication.specs.declared.coordinates.Coordinates.{Coordinates}

@@ -16,7 +16,7 @@ use Rattle.monomial.specs.declared.Exponent.{Exponent}
 use Rattle.monomial.specs.declared.Monomial.{Monomial}
 use Rattle.monomial.proofs.Products.{row-extensional}
 use Rattle.monomial.proofs.Places.{exponent-row, row-monomial}
-use Rattle.groebner.proofs.Variables.{variable}
+use Rattle.groebner.specs.Variables.{variable}
 use Rattle.groebner.proofs.Powers.{exponent-power, exponent-power-other}
 use Rattle.store.proofs.Storing.{zeros-at}
 

@@ -13,12 +13,12 @@ use Rattle.residue.specs.Field.{modulo}
 use Rattle.monomial.specs.Rows.{one}
 use Rattle.monomial.specs.Ordering.{rows, Grevlex}
 use Rattle.monomial.proofs.GrevlexOrder.{grevlex-order}
-use Rattle.groebner.specs.Lines.{Lines, Reducible}
+use Rattle.groebner.specs.Lines.{Lines, Reducible, Low}
 use Rattle.groebner.specs.Bases.{Clear, Groebner}
 use Rattle.groebner.specs.Standard.{ZeroDimensional}
-use Rattle.groebner.proofs.Division.{Low}
 use Rattle.groebner.proofs.Instance.{ground, criterion}
-use Rattle.groebner.proofs.MultiplicationRows.{RowsCommute, Filled, rows-commute-iff}
+use Rattle.groebner.specs.MultiplicationRows.{RowsCommute, Filled}
+use Rattle.groebner.proofs.MultiplicationRows.{rows-commute-iff}
 use Rattle.groebner.proofs.PowerLeads.{square-groebner}
 use Rattle.groebner.proofs.RisingLists.{lists-once}
 use Rattle.basis.specs.Held.{Basis}

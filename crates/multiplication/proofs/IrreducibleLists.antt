@@ -22,9 +22,11 @@ use Rattle.groebner.proofs.Ground.{divides-trans}
 use Rattle.groebner.proofs.Places.{at-in}
 use Rattle.groebner.proofs.Counting.{exponent-bounded}
 use Rattle.groebner.proofs.ReducibleTest.{reducible}
-use Rattle.groebner.proofs.RisingLists.{ListsRising, lists-once}
-use Rattle.groebner.proofs.Next.{next, next-lex, variables-ranking}
-use Rattle.groebner.proofs.IrreducibleList.{irreducibles, Counts, irreducibles-of-lines}
+use Rattle.groebner.specs.RisingLists.{ListsRising}
+use Rattle.groebner.specs.Next.{next, irreducibles}
+use Rattle.groebner.proofs.RisingLists.{lists-once}
+use Rattle.groebner.proofs.Next.{next-lex, variables-ranking}
+use Rattle.groebner.proofs.IrreducibleList.{Counts, irreducibles-of-lines}
 use Rattle.tabtext.specs.Sizes.{most-standard}
 use Rattle.basis.specs.Held.{Basis}
 use Rattle.reduction.specs.HeldLines.{linesOf}

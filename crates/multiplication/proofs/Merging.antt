@@ -12,8 +12,8 @@ use Rattle.monomial.specs.Rows.{Row, one, product}
 use Rattle.monomial.specs.Ordering.{Grevlex, rows}
 use Rattle.monomial.proofs.GrevlexOrder.{grevlex-order}
 use Rattle.groebner.specs.Lines.{Line}
-use Rattle.groebner.proofs.Variables.{variable}
-use Rattle.groebner.proofs.RisingLists.{RisingList}
+use Rattle.groebner.specs.Variables.{variable}
+use Rattle.groebner.specs.RisingLists.{RisingList}
 use Rattle.multiplication.specs.Listed.{listed, listedAt}
 use Rattle.multiplication.specs.Cursors.{cursor, nextProduct, Best}
 use Rattle.reduction.specs.declared.irreducible.Irreducibles.{Irreducibles}

@@ -16,7 +16,7 @@ use native.Mathlib.Omega.{arith}
 use Rattle.residue.specs.Modular.{sum, product}
 use Rattle.residue.specs.Field.{ZMod, modulo}
 use Rattle.residue.proofs.Remainders.{mod-mul, mul-mod}
-use Rattle.groebner.proofs.DotProducts.{dot}
+use Rattle.groebner.specs.MultiplicationRows.{dot}
 use Rattle.reduction.specs.Generators.{residue}
 
 -- Σ v(k)·w(k) over k < d

@@ -14,7 +14,7 @@ use lib.ListN.{length, getD, set, length-set}
 use lib.Seq.{getD-set-same, getD-set-other}
 use Rattle.monomial.specs.Sizes.{most-variables}
 use Rattle.monomial.specs.Rows.{product}
-use Rattle.groebner.proofs.Variables.{variable}
+use Rattle.groebner.specs.Variables.{variable}
 use Rattle.reduction.specs.declared.irreducible.Irreducibles.{Irreducibles}
 use Rattle.multiplication.specs.Ranks.{rankOf, RanksOf, VariableRanks, Bounded, NextRank}
 use Rattle.multiplication.specs.Listed.{listed, listedAt}

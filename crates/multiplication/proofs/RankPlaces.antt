@@ -26,8 +26,8 @@ use Rattle.monomial.specs.Rows.{Row, one}
 use Rattle.monomial.specs.Ordering.{Grevlex}
 use Rattle.monomial.specs.Represented.{row}
 use Rattle.monomial.specs.declared.Monomial.{Monomial}
-use Rattle.groebner.proofs.RisingLists.{RisingList}
-use Rattle.groebner.proofs.Variables.{variable}
+use Rattle.groebner.specs.RisingLists.{RisingList}
+use Rattle.groebner.specs.Variables.{variable}
 use Rattle.reduction.specs.Leads.{rowsOf}
 use Rattle.reduction.proofs.ArrayRows.{blank, rows-at}
 use Rattle.multiplication.specs.Ranks.{rankOf, Short, RanksOf, VariableRanks, FirstRank, Rising, Bounded}

@@ -18,7 +18,8 @@ use Rattle.monomial.specs.Sizes.{most-entry}
 use Rattle.monomial.specs.Rows.{Row, exponent, product, quotient, divides}
 use Rattle.monomial.proofs.Products.{exponent-product, exponent-quotient, divides-at, product-quotient}
 use Rattle.monomial.proofs.GrevlexOrder.{grevlex-order}
-use Rattle.groebner.proofs.Variables.{variable, variable-above}
+use Rattle.groebner.specs.Variables.{variable}
+use Rattle.groebner.proofs.Variables.{variable-above}
 use Rattle.groebner.proofs.Powers.{exponent-power, exponent-power-other}
 use Rattle.reduction.specs.declared.irreducible.Irreducibles.{Irreducibles}
 use Rattle.multiplication.specs.Ranks.{rankOf, Short, RanksOf, VariableRanks}

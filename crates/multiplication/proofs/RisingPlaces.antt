@@ -5,7 +5,7 @@ use Prim.Native.Nat.{ℕ, zero, suc, _<_}
 use native.Mathlib.Omega.{arith}
 use lib.ListN.{length, getD}
 use Rattle.groebner.proofs.Places.{at-in}
-use Rattle.groebner.proofs.RisingLists.{RisingList}
+use Rattle.groebner.specs.RisingLists.{RisingList}
 
 pub rising-at : {M : Type 0} (lt : M → M → Type 0) (l : List M) (d : M) → RisingList lt l → (i j : ℕ) → i < j → j < length l → lt (getD l i d) (getD l j d)
 rising-at lt [] d r i j h k = absurd (omega arith)

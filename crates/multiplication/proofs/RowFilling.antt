@@ -14,14 +14,13 @@ use Rattle.residue.specs.Field.{Arithmetic, Ring}
 use Rattle.monomial.specs.Rows.{Row, product}
 use Rattle.monomial.specs.Ordering.{MonomialOrder, rows}
 use Rattle.monomial.proofs.AnyOrder.{asymmetric}
-use Rattle.groebner.specs.Lines.{Line, Reducible}
+use Rattle.groebner.specs.Lines.{Line, Reducible, Low}
 use Rattle.groebner.proofs.Modules.{self, mul-zero, opposite-null}
 use Rattle.groebner.proofs.Terms.{δ-other, coef-absent, find, all-at}
-use Rattle.groebner.proofs.Division.{Low}
-use Rattle.groebner.proofs.Variables.{variable, variable-above, product-left-comm}
-use Rattle.groebner.proofs.DotProducts.{dot}
-use Rattle.groebner.proofs.MultiplicationRows.{multiply, Filled}
-use Rattle.groebner.proofs.MultiplicationRows.Filled.{as-unit, as-tail, as-product}
+use Rattle.groebner.specs.Variables.{variable}
+use Rattle.groebner.specs.MultiplicationRows.{dot, multiply, Filled}
+use Rattle.groebner.proofs.Variables.{variable-above, product-left-comm}
+use Rattle.groebner.specs.MultiplicationRows.Filled.{as-unit, as-tail, as-product}
 use Rattle.multiplication.specs.Rules.{multiple-at, NewRow}
 use Rattle.multiplication.specs.Rules.NewRow.{new-unit, new-tail, new-product}
 

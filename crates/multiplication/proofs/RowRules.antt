@@ -32,8 +32,9 @@ use Rattle.groebner.proofs.Terms.{δ-same, δ-other}
 use Rattle.groebner.proofs.Places.{at-in, place-of, at-once}
 use Rattle.groebner.proofs.RisingLists.{rising-once}
 use Rattle.groebner.proofs.ReducibleTest.{reducible-iff}
-use Rattle.groebner.proofs.Variables.{variable, take-off}
-use Rattle.groebner.proofs.MultiplicationRows.{multiply}
+use Rattle.groebner.specs.Variables.{variable}
+use Rattle.groebner.specs.MultiplicationRows.{multiply}
+use Rattle.groebner.proofs.Variables.{take-off}
 use Rattle.tabtext.specs.Sizes.{most-standard}
 use Rattle.tabtext.specs.Printed.{termsIn}
 use Rattle.basis.specs.Held.{Basis}

@@ -16,7 +16,7 @@ use lib.ListN.{getD}
 use Rattle.residue.specs.Field.{modulo}
 use Rattle.residue.proofs.ResidueField.{residue-ring}
 use Rattle.groebner.proofs.DotProducts.{dot-on}
-use Rattle.groebner.proofs.MultiplicationRows.{multiply}
+use Rattle.groebner.specs.MultiplicationRows.{multiply}
 use Rattle.tabtext.specs.Sizes.{most-standard}
 use Rattle.reduction.specs.Generators.{residue}
 use Rattle.multiplication.specs.Rows.{coordinate, rowStart, cellAt, Below, AllBelow, AddedMultiple, Cut, RowOf, coordinatesOf, cellOf, Multiplied, Tables}

@@ -8,7 +8,7 @@ use Rattle.residue.specs.Field.{modulo}
 use Rattle.monomial.specs.Rows.{one}
 use Rattle.monomial.specs.Ordering.{rows, Grevlex}
 use Rattle.groebner.specs.Bases.{Groebner, Buchberger}
-use Rattle.groebner.proofs.MultiplicationRows.{Filled}
+use Rattle.groebner.specs.MultiplicationRows.{Filled}
 use Rattle.basis.specs.Held.{Basis}
 use Rattle.reduction.specs.HeldLines.{linesOf}
 use Rattle.reduction.specs.declared.irreducible.Irreducibles.{Irreducibles}

@@ -13,7 +13,7 @@ use lib.ListN.{length, getD}
 use Rattle.monomial.specs.Sizes.{most-variables, most-entry}
 use Rattle.monomial.specs.Rows.{Row, exponent, product}
 use Rattle.monomial.specs.Ordering.{Grevlex}
-use Rattle.groebner.proofs.Variables.{variable}
+use Rattle.groebner.specs.Variables.{variable}
 use Rattle.tabtext.specs.Sizes.{most-standard}
 use Rattle.multiplication.specs.Least.{Least}
 use Rattle.multiplication.specs.Ranks.{rankOf}

@@ -19,8 +19,8 @@ use Rattle.monomial.specs.Rows.{Row, one, exponent, product, quotient, divides}
 use Rattle.monomial.specs.Ordering.{Grevlex, rows}
 use Rattle.groebner.specs.Polynomials.{coef}
 use Rattle.groebner.specs.Lines.{Reducible}
-use Rattle.groebner.proofs.Variables.{variable}
-use Rattle.groebner.proofs.RisingLists.{ListsRising}
+use Rattle.groebner.specs.Variables.{variable}
+use Rattle.groebner.specs.RisingLists.{ListsRising}
 use Rattle.tabtext.specs.Sizes.{most-standard}
 use Rattle.tabtext.specs.Printed.{termsIn}
 use Rattle.tabtext.specs.declared.print.Generator.{Generator}

@@ -17,7 +17,7 @@ use mathlib.Core.Path.{_≡_}
 use mathlib.Core.List.{List}
 use lib.ListN.{length, getD}
 use Rattle.monomial.specs.Sizes.{most-entry}
-use Rattle.groebner.proofs.Variables.{variable}
+use Rattle.groebner.specs.Variables.{variable}
 use Rattle.multiplication.specs.Least.{Least}
 use Rattle.monomial.specs.Rows.{Row, one, exponent, degree}
 

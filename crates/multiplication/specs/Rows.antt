@@ -26,7 +26,7 @@ use lib.Dec.{eqb}
 use Rattle.residue.specs.Field.{ZMod, modulo}
 use Rattle.monomial.specs.Sizes.{most-variables}
 use Rattle.tabtext.specs.Sizes.{most-standard}
-use Rattle.groebner.proofs.MultiplicationRows.{multiply}
+use Rattle.groebner.specs.MultiplicationRows.{multiply}
 use Rattle.reduction.specs.Generators.{residue}
 use Rattle.multiplication.specs.declared.coordinates.Coordinates.{Coordinates}
 

@@ -17,8 +17,8 @@ use Rattle.monomial.specs.Rows.{Row, one, product, quotient}
 use Rattle.monomial.specs.Ordering.{rows}
 use Rattle.groebner.specs.Polynomials.{_∈_, δ, coef}
 use Rattle.groebner.specs.Lines.{Line, Reducible}
-use Rattle.groebner.proofs.Variables.{variable}
-use Rattle.groebner.proofs.MultiplicationRows.{multiply}
+use Rattle.groebner.specs.Variables.{variable}
+use Rattle.groebner.specs.MultiplicationRows.{multiply}
 use Rattle.basis.specs.Held.{Basis}
 use Rattle.reduction.specs.HeldLines.{linesOf}
 use Rattle.multiplication.specs.Rows.{coordinate, indicator, Below, coordinatesOf, cellOf, RowOf, Multiplied, Tables}

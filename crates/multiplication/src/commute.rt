@@ -8,7 +8,7 @@ ghost use Rattle.residue.specs.Prime.{«largest-modulus»};
 ghost use Rattle.residue.specs.Field.{modulo};
 ghost use Rattle.monomial.specs.Sizes.{«most-variables»};
 ghost use Rattle.tabtext.specs.Sizes.{«most-standard»};
-ghost use Rattle.groebner.proofs.MultiplicationRows.{RowsCommute};
+ghost use Rattle.groebner.specs.MultiplicationRows.{RowsCommute};
 ghost use Rattle.multiplication.specs.Rows.{«most-cells», coordinate, tablesOf, AllBelow, cellOf, CommuteAt};
 use crate::coordinates::Coordinates;
 use crate::coordinates::apply;

@@ -7,7 +7,7 @@ ghost use Rattle.monomial.specs.Sizes.{«most-variables»};
 ghost use Rattle.monomial.specs.Rows.{quotient, divides};
 ghost use Rattle.monomial.specs.Represented.{row};
 ghost use Rattle.tabtext.specs.Sizes.{«most-standard»};
-ghost use Rattle.groebner.proofs.Variables.{variable as «x»};
+ghost use Rattle.groebner.specs.Variables.{variable as «x»};
 ghost use Rattle.multiplication.specs.Listed.{listed, listedAt, Place};
 use crate::ranks::rank;
 use monomial::Exponent;

@@ -20,8 +20,8 @@ use Rattle.monomial.specs.Represented.{row, monomial}
 use Rattle.monomial.specs.declared.Monomial.{Monomial}
 use Rattle.monomial.proofs.FirstVariable.{ranking-cons}
 use Rattle.groebner.proofs.Places.{at-in}
-use Rattle.groebner.proofs.Exponents.{raise, clear}
-use Rattle.groebner.proofs.Next.{Ranking, carried, next, next-append}
+use Rattle.groebner.specs.Next.{raise, clear, Ranking, carried, next}
+use Rattle.groebner.proofs.Next.{next-append}
 use Rattle.reduction.specs.Leads.{NextIs}
 use Rattle.reduction.proofs.HeldRows.{held-row, held}
 use Rattle.reduction.proofs.ChangedExponents.{with-with, clear-below, carried-below, exponent-held, storedAt, raisedAt, stored-with, raised-raise}

@@ -19,8 +19,8 @@ use Rattle.monomial.specs.Represented.{row, exponents, monomial}
 use Rattle.monomial.specs.declared.Exponent.{Exponent}
 use Rattle.monomial.specs.declared.Monomial.{Monomial}
 use Rattle.monomial.proofs.Places.{exponent-row, row-monomial}
-use Rattle.groebner.proofs.Exponents.{withExponent, raise, clear, with-zero, with-other, raise-same, raise-other}
-use Rattle.groebner.proofs.Next.{carried}
+use Rattle.groebner.specs.Next.{withExponent, raise, clear, carried}
+use Rattle.groebner.proofs.Exponents.{with-zero, with-other, raise-same, raise-other}
 
 pub with-with : (n v e f : ℕ) (a : Row n) → withExponent n v e (withExponent n v f a) ≡ withExponent n v e a
 unfolding withExponent

@@ -19,8 +19,7 @@ use Rattle.monomial.specs.Rows.{Row, exponent, one}
 use Rattle.monomial.specs.Represented.{row, monomial}
 use Rattle.monomial.specs.declared.Monomial.{Monomial}
 use Rattle.monomial.proofs.Products.{exponent-one}
-use Rattle.groebner.proofs.Next.{next}
-use Rattle.groebner.proofs.IrreducibleList.{collect, irreducibles}
+use Rattle.groebner.specs.Next.{next, collect, irreducibles}
 use Rattle.tabtext.specs.Sizes.{most-standard}
 use Rattle.reduction.specs.Leads.{rowsOf, NextIs, CountIs}
 use Rattle.reduction.proofs.HeldRows.{held-row, held, one-held}

@@ -7,12 +7,12 @@ use native.Mathlib.Omega.{arith}
 use Rattle.residue.specs.Field.{Arithmetic}
 use Rattle.monomial.specs.Ordering.{Monomials, MonomialOrder}
 use Rattle.groebner.specs.Polynomials.{Poly}
-use Rattle.groebner.specs.Lines.{Line}
+use Rattle.groebner.specs.Lines.{Line, Low}
 use Rattle.groebner.specs.Remainders.{Remainder}
 use Rattle.groebner.specs.Bases.{Buchberger}
 use Rattle.groebner.proofs.Terms.{equal-nil}
 use Rattle.groebner.proofs.Ground.{PolynomialRing}
-use Rattle.groebner.proofs.Division.{Low, remainder, remainder-unique}
+use Rattle.groebner.proofs.Division.{remainder, remainder-unique}
 use Rattle.reduction.specs.Whole.{Failing}
 use Rattle.reduction.proofs.ClearLines.{before-at, on-before}
 

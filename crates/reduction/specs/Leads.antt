@@ -17,8 +17,7 @@ use Rattle.monomial.specs.Rows.{Row, divides, isPower}
 use Rattle.monomial.specs.Represented.{row}
 use Rattle.monomial.specs.declared.Monomial.{Monomial}
 use Rattle.groebner.specs.Polynomials.{_∈_}
-use Rattle.groebner.proofs.Next.{next}
-use Rattle.groebner.proofs.IrreducibleList.{irreducibles}
+use Rattle.groebner.specs.Next.{next, irreducibles}
 use Rattle.tabtext.specs.Sizes.{most-terms}
 use Rattle.store.specs.Stored.{monomialIn}
 use Rattle.basis.specs.Held.{Basis}

@@ -5,7 +5,7 @@ ghost use lib.ListN.{take};
 ghost use Rattle.monomial.specs.Sizes.{«most-variables», «most-entry»};
 ghost use Rattle.monomial.specs.Rows.{exponent};
 ghost use Rattle.monomial.specs.Represented.{row, monomial};
-ghost use Rattle.groebner.proofs.Next.{Ranking as Ranks};
+ghost use Rattle.groebner.specs.Next.{Ranking as Ranks};
 ghost use Rattle.tabtext.specs.Sizes.{«most-lines»};
 ghost use Rattle.reduction.specs.Leads.{rowsOf, multiple, NextIs};
 use crate::leads::Leads;

@@ -6,7 +6,7 @@ use borrow.Author.Needs.{needs}
 use lib.ListN.{length}
 use Rattle.monomial.specs.Rows.{product}
 use Rattle.monomial.specs.Represented.{row}
-use Rattle.groebner.proofs.Variables.{variable}
+use Rattle.groebner.specs.Variables.{variable}
 use Rattle.tabtext.specs.Sizes.{most-standard}
 use Rattle.reduction.proofs.Elements.{length-mapped}
 use Rattle.multiplication.specs.Rows.{Below}

@@ -5,7 +5,7 @@ use mathlib.Core.Logic.{⊎-elim}
 use Prim.Native.Nat.{ℕ, _+_, _≤_, _<_}
 use lib.ListN.{length, set, replicate}
 use Rattle.monomial.specs.Rows.{product}
-use Rattle.groebner.proofs.Variables.{variable}
+use Rattle.groebner.specs.Variables.{variable}
 use Rattle.monomial.specs.Sizes.{most-variables}
 use Rattle.tabtext.specs.Sizes.{most-standard, most-lines}
 use Rattle.reduction.specs.Leads.{rowsOf, LeadsOf}

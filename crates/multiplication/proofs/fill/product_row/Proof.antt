@@ -3,7 +3,7 @@ use mathlib.Core.Path.{_≡_}
 use Prim.Native.Nat.{_+_, _<_}
 use lib.ListN.{getD}
 use Rattle.monomial.specs.Rows.{quotient}
-use Rattle.groebner.proofs.Variables.{variable}
+use Rattle.groebner.specs.Variables.{variable}
 use Rattle.multiplication.specs.Ranks.{rankOf}
 use Rattle.multiplication.specs.Listed.{listed, listedAt, Place, Passes}
 use Rattle.multiplication.proofs.RankPlaces.{rank-place}

@@ -1,6 +1,6 @@
 -- `row_for` meets its contract.
 use Rattle.monomial.specs.Rows.{product}
-use Rattle.groebner.proofs.Variables.{variable}
+use Rattle.groebner.specs.Variables.{variable}
 use Rattle.multiplication.specs.Listed.{listed, listedAt, Place}
 use Rattle.multiplication.specs.Rules.MadeBy.{by-unit, by-product}
 use Rattle.multiplication.proofs.RankPlaces.{rank-place}
