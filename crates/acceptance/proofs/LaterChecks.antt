@@ -5,16 +5,12 @@ use mathlib.Core.Path.{_≡_, sym, ap}
 use mathlib.Core.List.{List}
 use mathlib.Core.Logic.{inl, inr}
 use Prim.Native.Nat.{ℕ, _<_}
-use native.Mathlib.Omega.{arith}
 use Rattle.residue.specs.Field.{ZMod}
 use Rattle.monomial.specs.Rows.{Row}
+use Rattle.answer.specs.Outcomes.{Judged, refused, passed}
+use Rattle.answer.proofs.Outcomes.{passed-not-refused}
 use Rattle.groebner.specs.Lines.{Line}
-use Rattle.basis.specs.Checks.{Judged, refused, passed}
-use Rattle.reduction.specs.Whole.{Whole}
-
--- A refusal is no pass.
-passed-not-refused : {A : Type 0} {number line : ℕ} {a : A} → ¬ (passed a ≡ refused number line)
-passed-not-refused e = let z : _≡_ {A = ℕ} 0 1 = cc in omega arith
+use Rattle.acceptance.specs.Whole.{Whole}
 
 -- The refusal, whatever passes.
 refusal : {A : Type 0} → Judged Unit → Judged A

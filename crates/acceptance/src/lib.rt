@@ -4,46 +4,40 @@
 pub mod text;
 
 ghost use mathlib.Core.Path.{_≡_};
-ghost use Prim.Native.Nat.{_<_};
-ghost use lib.ListN.{length};
-ghost use Rattle.residue.specs.Field.{modulo};
-ghost use Rattle.monomial.specs.Ordering.{rows, Grevlex};
-ghost use Rattle.store.specs.Stored.{Arrays};
-ghost use Rattle.basis.specs.Held.{held};
-ghost use Rattle.basis.specs.declared.Verdict.the-variants.{Refused};
-ghost use Rattle.reduction.specs.HeldLines.{linesOf};
-ghost use Rattle.reduction.specs.Leads.{LeadsOf};
-ghost use Rattle.reduction.specs.Sound.{Sound};
-ghost use Rattle.reduction.specs.Whole.{Failing, Smallest};
-ghost use Rattle.multiplication.specs.Rows.{«most-cells», NoRows, tablesOf};
-ghost use Rattle.division.specs.PairRemainders.{LowPairs};
-ghost use Rattle.acceptance.specs.Answers.{LeadsPass, WholeSays};
-use basis::Shape;
-use basis::Verdict;
-use basis::refusal::Refusal;
+ghost use Rattle.answer.specs.declared.Verdict.the-variants.{Refused};
+ghost use Rattle.lines.specs.Bases.{basisIn, Stored};
+ghost use Rattle.staircase.specs.Sound.{Sound};
+ghost use Rattle.multiplication.specs.Rows.{NoRows};
+ghost use Rattle.division.specs.PairRemainders.{Pairable, FirstFailing};
+ghost use Rattle.acceptance.specs.Answers.{PassedTo13, WholeSays};
+use answer::Refusal;
+use answer::Verdict;
 use division::grevlex::SPACE;
 use division::pairs::first_failing;
+use lines::Shape;
+use lines::sizes::MAX_STANDARD;
 use monomial::Monomial;
-use multiplication::accept::accept;
-use multiplication::sort::by_grevlex;
-use reduction::divided::first_divided;
-use reduction::irreducible::Irreducibles;
-use reduction::irreducible::list_irreducibles;
-use reduction::leads::Leads;
-use tabtext::sizes::MAX_STANDARD;
+use multiplication::criterion::is_groebner;
+use staircase::divided::first_divided;
+use staircase::irreducible::Irreducibles;
+use staircase::irreducible::list_irreducibles;
+use staircase::leads::Leads;
+use staircase::sort::by_grevlex;
 
-// The verdict, and if the basis passes its irreducible monomials in rising grevlex order; their multiplication rows are in the lent cells.
-pub struct WholeCheck {
+// The verdict on a text, the shape of the basis that it holds, and if it passes the irreducible monomials in rising grevlex order.
+pub struct TextCheck {
     pub verdict: Verdict,
+    pub shape: Shape,
     pub irreducibles: Irreducibles,
 }
 
-// A refused basis.
-fn refused(r: Refusal, line: usize) -> WholeCheck
-    ensures { λ c. ⌜ c .verdict ≡ Refused r line ⌝ }
+// A refused text.
+fn refused(shape: Shape, r: Refusal, line: usize) -> TextCheck
+    ensures { λ c. ⌜ (c .shape ≡ shape) × (c .verdict ≡ Refused r line) ⌝ }
 {
-    WholeCheck {
+    TextCheck {
         verdict: Verdict::Refused(r, line),
+        shape,
         irreducibles: Irreducibles {
             many: false,
             count: 0,
@@ -53,74 +47,69 @@ fn refused(r: Refusal, line: usize) -> WholeCheck
 }
 
 // The line that 15 names, by division on an array of its own.
-fn failing_line(terms: &[usize], coefficients: &[u16], exponents: &[u8], b: Shape) -> usize
-    requires { ⌜
-        Arrays (now terms) (now coefficients) (now exponents)
-        × Sound (held b (now terms) (now coefficients) (now exponents)) × LowPairs (held b (now terms) (now coefficients) (now exponents))
-        ⌝ }
-    ensures { λ r. ⌜ ((h : 1 < b .p) → Smallest (Failing (modulo (b .p) h) (rows (b .n)) (linesOf (held b (now (terms .entry)) (now (coefficients .entry)) (now (exponents .entry))) h) (Grevlex (b .n))) r) ⌝ }
+fn failing_line(counts: &[usize], coefficients: &[u16], exponents: &[u8], shape: Shape) -> usize
+    requires { ⌜ Stored shape (now counts) (now coefficients) (now exponents) Pairable ⌝ }
+    ensures { λ r. ⌜ FirstFailing (basisIn shape (now (counts .entry)) (now (coefficients .entry)) (now (exponents .entry))) r ⌝ }
 {
     let mut work = [0; SPACE];
-    first_failing(&mut work, terms, coefficients, exponents, b)
+    first_failing(&mut work, counts, coefficients, exponents, shape)
 }
 
 // 14 and 15, after 12 and 13.
 fn check_irreducibles(
     cells: &mut [u16],
-    terms: &[usize],
+    counts: &[usize],
     coefficients: &[u16],
     exponents: &[u8],
-    b: Shape,
+    shape: Shape,
     leads: Leads,
-) -> WholeCheck
-    requires { ⌜
-        NoRows (now cells) × Arrays (now terms) (now coefficients) (now exponents)
-        × Sound (held b (now terms) (now coefficients) (now exponents)) × LeadsOf (held b (now terms) (now coefficients) (now exponents)) (leads .count) (leads .monomials)
-        × LeadsPass (held b (now terms) (now coefficients) (now exponents))
-        ⌝ }
+) -> TextCheck
+    requires { ⌜ NoRows (now cells) × Stored shape (now counts) (now coefficients) (now exponents) (PassedTo13 leads) ⌝ }
     ensures { λ r. ⌜
-        (length (now (cells .exit)) ≡ most-cells)
-        × WholeSays (held b (now (terms .entry)) (now (coefficients .entry)) (now (exponents .entry))) (r .verdict) (r .irreducibles) (tablesOf (now (cells .exit)))
+        (r .shape ≡ shape)
+        × WholeSays (basisIn shape (now (counts .entry)) (now (coefficients .entry)) (now (exponents .entry))) (r .verdict) (r .irreducibles) (now (cells .exit))
         ⌝ }
 {
-    let l = list_irreducibles(leads, b.n);
+    let l = list_irreducibles(leads, shape.n);
     if l.many {
-        return refused(Refusal::TooManyStandard, 0);
+        return refused(shape, Refusal::TooManyStandardMonomials, 0);
     }
-    let s = by_grevlex(l, b.n);
-    if !accept(&mut *cells, terms, coefficients, exponents, b, s) {
+    let s = by_grevlex(l, shape.n);
+    if !is_groebner(&mut *cells, counts, coefficients, exponents, shape, s) {
         return refused(
+            shape,
             Refusal::NotGroebner,
-            failing_line(terms, coefficients, exponents, b),
+            failing_line(counts, coefficients, exponents, shape),
         );
     }
-    WholeCheck {
+    TextCheck {
         verdict: Verdict::Passed,
+        shape,
         irreducibles: s,
     }
 }
 
-// 12 to 15.
+// 12 to 15. If the basis passes, its multiplication rows are left in the lent cells.
 pub fn check_whole(
     cells: &mut [u16],
-    terms: &[usize],
+    counts: &[usize],
     coefficients: &[u16],
     exponents: &[u8],
-    b: Shape,
-) -> WholeCheck
-    requires { ⌜ NoRows (now cells) × Arrays (now terms) (now coefficients) (now exponents) × Sound (held b (now terms) (now coefficients) (now exponents)) ⌝ }
+    shape: Shape,
+) -> TextCheck
+    requires { ⌜ NoRows (now cells) × Stored shape (now counts) (now coefficients) (now exponents) Sound ⌝ }
     ensures { λ r. ⌜
-        (length (now (cells .exit)) ≡ most-cells)
-        × WholeSays (held b (now (terms .entry)) (now (coefficients .entry)) (now (exponents .entry))) (r .verdict) (r .irreducibles) (tablesOf (now (cells .exit)))
+        (r .shape ≡ shape)
+        × WholeSays (basisIn shape (now (counts .entry)) (now (coefficients .entry)) (now (exponents .entry))) (r .verdict) (r .irreducibles) (now (cells .exit))
         ⌝ }
 {
-    let leads = Leads::of(exponents, b.lines);
-    let k = first_divided(terms, coefficients, exponents, b, leads);
+    let leads = Leads::of(exponents, shape.lines);
+    let k = first_divided(counts, coefficients, exponents, shape, leads);
     if k != 0 {
-        return refused(Refusal::NotReduced, k);
+        return refused(shape, Refusal::NotReduced, k);
     }
-    if !leads.zero_dimensional(b.n) {
-        return refused(Refusal::NotZeroDimensional, 0);
+    if !leads.zero_dimensional(shape.n) {
+        return refused(shape, Refusal::NotZeroDimensional, 0);
     }
-    check_irreducibles(&mut *cells, terms, coefficients, exponents, b, leads)
+    check_irreducibles(&mut *cells, counts, coefficients, exponents, shape, leads)
 }

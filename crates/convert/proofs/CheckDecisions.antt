@@ -1,27 +1,32 @@
 -- Checks 12 and 15 are decided, line by line.
---   divided-smallest       the smallest line of which check 12 speaks, or that it speaks of none
---   s-polynomial           two lines have an S-polynomial
---   s-polynomial-unique    it is one up to the order of terms
---   Fails, fails?          the S-polynomial of two lines has a remainder that is not zero; whether it has
---   failing-smallest       the smallest line of which check 15 speaks, or that it speaks of none, by any decision of pairs
-use mathlib.Core.Path.{_≡_, sym, _∙_, ap₂, subst}
+--   divided-smallest      the smallest line of which check 12 speaks, or that it speaks of none
+--   s-polynomial-exists   two lines have an S-polynomial
+--   s-polynomial-equal    it is one up to the order of terms
+--   Fails, fails?         the S-polynomial of two lines has a remainder that is not zero; whether it has
+--   failing-smallest      the smallest line of which check 15 speaks, or that it speaks of none, by any decision of pairs
+use mathlib.Core.Path.{_≡_, subst}
 use mathlib.Core.List.{List, [], _∷_, cons-ne-nil}
 use mathlib.Core.Logic.{_⊎_}
 use Prim.Native.Nat.{ℕ, _+_, _<_}
 use native.Mathlib.Decide.{ℕ-discrete, decLt}
 use lib.ListN.{length}
-use Rattle.residue.specs.Field.{Arithmetic, Field}
-use Rattle.monomial.specs.Ordering.{Monomials, Divides, MonomialLaws, MonomialOrder}
-use Rattle.groebner.specs.Polynomials.{_∈_, Poly, Equal, coef, minus, shift}
-use Rattle.groebner.specs.Lines.{Line, polynomial, Low}
+use Rattle.lists.specs.Lists.{_∈_}
+use Rattle.residue.specs.Field.{Arithmetic}
+use Rattle.residue.specs.RingLaws.{Field}
+use Rattle.monomial.specs.Ordering.{Monomials, Divides}
+use Rattle.monomial.specs.OrderLaws.{MonomialLaws, MonomialOrder}
+use Rattle.groebner.specs.Polynomials.{Poly, Equal, minus, shift}
+use Rattle.groebner.specs.Lines.{Line, polynomial}
+use Rattle.groebner.specs.Criteria.{Low}
 use Rattle.groebner.specs.Remainders.{Remainder}
 use Rattle.groebner.specs.Bases.{SPolynomial}
 use Rattle.groebner.proofs.Terms.{clean, clean-proper, clean-same, equal-of-same, equal-nil}
-use Rattle.groebner.proofs.Ground.{PolynomialRing, divides-antisym, cancel-right}
+use Rattle.groebner.proofs.Ground.{PolynomialRing}
 use Rattle.groebner.proofs.Decisions.{among?}
 use Rattle.groebner.proofs.Deciding.{not?, both?, as?}
 use Rattle.groebner.proofs.Division.{remainder, remainder-equal}
-use Rattle.reduction.specs.Whole.{On, Divided, Failing}
+use Rattle.groebner.proofs.Witnesses.{s-polynomial-unique}
+use Rattle.staircase.specs.Conditions.{On, Divided, Failing}
 use Rattle.convert.proofs.LineDecisions.{on?, on-below, smallest-or-none}
 
 -- The smallest number that has Of, or that none has it.
@@ -51,26 +56,16 @@ module _ {F M : Type 0} {R : Arithmetic F} {𝓜 : Monomials M} {lt : M → M �
   open PolynomialRing 𝓟 using (field, monoid)
   open Field field using (ring, decide)
 
-  pub s-polynomial : (f g : Line F M) → (s : Poly F M) × SPolynomial R 𝓜 f g s
-  s-polynomial f g =
+  pub s-polynomial-exists : (f g : Line F M) → (s : Poly F M) × SPolynomial R 𝓜 f g s
+  s-polynomial-exists f g =
       let (m, l) = monoid .lcm (f .0) (g .0) in
       let raw : Poly F M = minus R (shift 𝓜 (l .left .0) (polynomial R f)) (shift 𝓜 (l .right .0) (polynomial R g)) in (
         clean ring 𝓜 decide raw,
         record { m = m; lcm = l; u = l .left .0; left = l .left .1; v = l .right .0; right = l .right .1; proper = clean-proper ring 𝓜 decide raw; outcome = clean-same ring 𝓜 decide raw },
       )
 
-  pub s-polynomial-unique : (f g : Line F M) (s r : Poly F M) → SPolynomial R 𝓜 f g s → SPolynomial R 𝓜 f g r → Equal s r
-  s-polynomial-unique f g s r a b = equal-of-same ring 𝓜 s r (a .proper) (b .proper)
-      (λ k. a .outcome k ∙ ap₂ (λ u v. coef R 𝓜 (minus R (shift 𝓜 u (polynomial R f)) (shift 𝓜 v (polynomial R g))) k) left right ∙ sym (b .outcome k))
-    where
-      same : a .m ≡ b .m
-      same = divides-antisym ord (a .m) (b .m) (a .lcm .least (b .m) (b .lcm .left) (b .lcm .right)) (b .lcm .least (a .m) (a .lcm .left) (a .lcm .right))
-
-      left : a .u ≡ b .u
-      left = cancel-right monoid ord (a .u) (b .u) (f .0) (sym (a .left) ∙ same ∙ b .left)
-
-      right : a .v ≡ b .v
-      right = cancel-right monoid ord (a .v) (b .v) (g .0) (sym (a .right) ∙ same ∙ b .right)
+  pub s-polynomial-equal : (f g : Line F M) (s r : Poly F M) → SPolynomial R 𝓜 f g s → SPolynomial R 𝓜 f g r → Equal s r
+  s-polynomial-equal f g s r a b = equal-of-same ring 𝓜 s r (a .proper) (b .proper) (s-polynomial-unique 𝓟 ord f g s r a b)
 
   module _ (G : List (Line F M)) (low : Low lt G) where
     -- The S-polynomial of f and g has a remainder that is not zero.
@@ -78,10 +73,10 @@ module _ {F M : Type 0} {R : Arithmetic F} {𝓜 : Monomials M} {lt : M → M �
     Fails f g = (s : Poly F M) × SPolynomial R 𝓜 f g s × (r : Poly F M) × Remainder R 𝓜 lt G s r × (¬ (r ≡ []))
 
     pub fails? : (f g : Line F M) → Dec (Fails f g)
-    fails? f g = let (s, w) = s-polynomial f g in let (r, q) = remainder 𝓟 ord G low s (w .proper) in go s w r q
+    fails? f g = let (s, w) = s-polynomial-exists f g in let (r, q) = remainder 𝓟 ord G low s (w .proper) in go s w r q
       where
         go : (s : Poly F M) → SPolynomial R 𝓜 f g s → (r : Poly F M) → Remainder R 𝓜 lt G s r → Dec (Fails f g)
-        go s w [] q = no (λ (s′, w′, r, q′, n). n (equal-nil r (remainder-equal 𝓟 ord G low s′ s r [] (w′ .proper) (w .proper) (s-polynomial-unique f g s′ s w′ w) q′ q)))
+        go s w [] q = no (λ (s′, w′, r, q′, n). n (equal-nil r (remainder-equal 𝓟 ord G low s′ s r [] (w′ .proper) (w .proper) (s-polynomial-equal f g s′ s w′ w) q′ q)))
         go s w (t ∷ r) q = yes (s, w, t ∷ r, q, cons-ne-nil t r)
 
     -- An earlier line than k fails with g.

@@ -8,14 +8,14 @@ use mathlib.Core.Logic.{_⊎_, inl, inr, _↔_}
 use Prim.Native.Nat.{ℕ, _<_}
 use native.Mathlib.Omega.{arith}
 use lib.ListN.{length, length-map}
-use Rattle.tabtext.specs.Text.{Bytes, bytes, header, generator, end, text}
-use Rattle.tabtext.specs.Text as tab
-use Rattle.basis.specs.Checks.{Judged, refused, passed}
-use Rattle.convert.specs.Written.{polyLine}
+use Rattle.lists.specs.Lists.{Bytes}
+use Rattle.answer.specs.Outcomes.{Judged, refused, passed}
+use Rattle.tabtext.specs.Text.{bytes, header, generator, end, text, TextLine}
+use Rattle.convert.specs.Written.{asGenerator}
 use Rattle.convert.specs.Outcome.{Outcome}
 use Rattle.convert.specs.Contract.{Usable}
-use Rattle.convert.proofs.LineTerms.{termsOf, text-lines, terms-of-generators}
-use Rattle.convert.proofs.ConvertedChecks.{linesIn}
+use Rattle.convert.proofs.LineTerms.{termsOfLine, text-lines, terms-of-generators}
+use Rattle.convert.proofs.ConvertedChecks.{linesOfBasis}
 use Rattle.convert.proofs.OutcomeCases.{Early, Reached, outcome-cases}
 use Rattle.convert.proofs.OutcomeExists.{outcome-exists}
 use Rattle.convert.proofs.Usable.{usable-refused}
@@ -25,19 +25,19 @@ reached-usable input room o r =
     let p : ℕ = r .basis .p in
     let n : ℕ = r .basis .n in
     let h : 1 < p = r .passes .modulus .prime .above-one in
-    let back : map (termsOf p h n) (linesIn (r .basis) h) ≡ r .basis .generators = terms-of-generators p h n (r .basis .generators) (r .passes .good) in
-    let many : length (linesIn (r .basis) h) ≡ length (r .basis .generators) = sym (length-map (linesIn (r .basis) h) (termsOf p h n)) ∙ ap length back in
-    let same : map (polyLine p h n) (linesIn (r .basis) h) ≡ map generator (r .basis .generators) = text-lines p h n (linesIn (r .basis) h) ∙ ap (map generator) back in
+    let back : map (termsOfLine p h n) (linesOfBasis (r .basis) h) ≡ r .basis .generators = terms-of-generators p h n (r .basis .generators) (r .passes .good) in
+    let many : length (linesOfBasis (r .basis) h) ≡ length (r .basis .generators) = sym (length-map (linesOfBasis (r .basis) h) (termsOfLine p h n)) ∙ ap length back in
+    let same : map (asGenerator p h n) (linesOfBasis (r .basis) h) ≡ map generator (r .basis .generators) = text-lines p h n (linesOfBasis (r .basis) h) ∙ ap (map generator) back in
     record {
       p = p;
       modulus = r .passes .modulus;
       n = n;
       variables = r .passes .variables;
-      lines = linesIn (r .basis) h;
+      lines = linesOfBasis (r .basis) h;
       reduced = r .reduced;
       finite = r .finite;
       small = r .small;
-      stands = r .passes .stands ∙ ap₂ (λ (ls : List tab.Line) (k : ℕ). text ((header (bytes "grevlex") p n ∷ ls) ++ (end k ∷ []))) (sym same) (sym many);
+      stands = r .passes .stands ∙ ap₂ (λ (ls : List TextLine) (k : ℕ). text ((header (bytes "grevlex") p n ∷ ls) ++ (end k ∷ []))) (sym same) (sym many);
     }
 
 -- Refused only where the output is too short.

@@ -9,30 +9,31 @@ use mathlib.Core.Option.{Option, none, some}
 use Prim.Native.Nat.{ℕ, _≤_}
 use native.Mathlib.Omega.{arith}
 use lib.ListN.{length}
+use Rattle.lists.proofs.EachElement.{each-at, each-of}
 use Rattle.monomial.specs.Rows.{Row}
 use Rattle.monomial.specs.Orders.{variables}
-use Rattle.monomial.specs.Ordering.{MonomialOrder, rows, Lex}
+use Rattle.monomial.specs.Ordering.{monomials, Lex}
+use Rattle.monomial.specs.OrderLaws.{MonomialOrder}
 use Rattle.monomial.proofs.LexOrder.{lex-order, variables-rank}
 use Rattle.groebner.specs.Lines.{Line, Reducible}
-use Rattle.groebner.specs.Standard.{Lists}
+use Rattle.groebner.specs.Conversions.{Lists}
+use Rattle.groebner.specs.Next.{next, irreducibles}
 use Rattle.groebner.proofs.Lists.{pigeon}
 use Rattle.groebner.proofs.RisingLists.{rising-once, lists-once}
-use Rattle.groebner.specs.Next.{next, irreducibles}
 use Rattle.groebner.proofs.Next.{next-lex, variables-ranking}
 use Rattle.groebner.proofs.ReducibleTest.{reducible}
 use Rattle.groebner.proofs.IrreducibleList.{Counts, irreducibles-of-lines}
-use Rattle.tabtext.specs.Sizes.{most-standard}
-use Rattle.reduction.specs.Whole.{Large}
-use Rattle.reduction.proofs.EachElement.{each-at, each-of}
+use Rattle.lines.specs.Sizes.{most-standard}
+use Rattle.staircase.specs.Conditions.{Large}
 
 module _ {F : Type 0} (n : ℕ) (G : List (Line F (Row n))) where
   abbrev Irreducible : Row n → Type 0
-  Irreducible m = ¬ Reducible (rows n) G m
+  Irreducible m = ¬ Reducible (monomials n) G m
 
   abbrev pub Few : Type 0
-  Few = (B : List (Row n)) × (length B ≤ most-standard) × Lists (λ m. ¬ Reducible (rows n) G m) B
+  Few = (B : List (Row n)) × (length B ≤ most-standard) × Lists (λ m. ¬ Reducible (monomials n) G m) B
 
-  abbrev order : MonomialOrder (rows n) (Lex n (variables n))
+  abbrev order : MonomialOrder (monomials n) (Lex n (variables n))
   order = lex-order n (variables n) (variables-rank n)
 
   unfoldable pub large-or-few : Large n G ⊎ Few

@@ -11,18 +11,18 @@ use native.Mathlib.Nat.{zero-add}
 use native.Mathlib.Omega.{arith}
 use lib.ListN.{length, drop}
 use lib.Seq.{sets, sets-eq}
-use Rattle.tabtext.specs.Text.{Bytes}
+use Rattle.lists.specs.Lists.{Bytes}
+use Rattle.answer.specs.Outcomes.{Judged, refused, passed}
+use Rattle.answer.specs.Answers.{pair, returned, after}
+use Rattle.answer.specs.Finished.{Finished}
+use Rattle.answer.specs.declared.Refusal.the-variants.{OutputTooShort}
+use Rattle.answer.specs.declared.Answer.{Answer}
+use Rattle.answer.specs.declared.Answer.the-variants.{Accepted, Refused}
 use Rattle.tabtext.specs.Written.{Written}
-use Rattle.basis.specs.Checks.{Judged, refused, passed}
-use Rattle.basis.specs.declared.refusal.Refusal.the-variants.{NoRoom}
 use Rattle.convert.specs.Outcome.{Fits}
-use Rattle.convert.specs.Contract.{pair, returned, after}
-use Rattle.convert.specs.Finished.{Finished}
-use Rattle.convert.specs.declared.Answer.{Answer}
-use Rattle.convert.specs.declared.Answer.the-variants.{Accepted, Refused}
 
 module _ (out was : Bytes) where
-  pub finished-short : length was < length out → Finished out was was (Refused NoRoom 0)
+  pub finished-short : length was < length out → Finished out was was (Refused OutputTooShort 0)
   finished-short h = record { short = λ _. (refl, refl); enough = λ e. absurd (e h) }
 
   whole : ¬ (length was < length out) → sets was 0 out ≡ out ++ drop (length out) was

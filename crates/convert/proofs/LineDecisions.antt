@@ -10,8 +10,9 @@ use Prim.Native.Nat.{ℕ, zero, suc, _+_, _<_}
 use native.Mathlib.Decide.{ℕ-discrete}
 use native.Mathlib.Omega.{arith}
 use lib.ListN.{length}
+use Rattle.lists.specs.Lists.{At}
 use Rattle.groebner.proofs.Deciding.{as?}
-use Rattle.reduction.specs.Whole.{At, On}
+use Rattle.staircase.specs.Conditions.{On}
 
 module _ {A : Type 0} where
   unfoldable pub at? : (l : List A) {P : ℕ → A → Type 0} → ((i : ℕ) (x : A) → Dec (P i x)) → Dec ((i : ℕ) × (x : A) × At l i x × P i x)

@@ -6,34 +6,38 @@
 --   lines-in-any-order    the outputs of two inputs with the same poly lines are equal
 use Prim.Native.Nat.{ℕ, _<_}
 use mathlib.Core.Path.{_≡_, refl, sym, _∙_, ap₂, subst}
-use mathlib.Core.List.{List, [], _∷_, _++_, map, List·Memᴰ·head, List·Memᴰ·tail, Memᴰ·cast}
+use mathlib.Core.List.{List, [], _∷_, map, List·Memᴰ·head, List·Memᴰ·tail, Memᴰ·cast}
 use mathlib.Core.Logic.{_⊎_, inl, inr, _↔_}
 use native.Mathlib.Bridge.{le-prop}
 use native.Mathlib.Omega.{arith}
+use Rattle.lists.specs.Lists.{_∈_, Bytes, Each}
 use Rattle.residue.specs.Prime.{Prime}
-use Rattle.residue.specs.Field.{Arithmetic, Ring, ZMod, modulo}
+use Rattle.residue.specs.Field.{Arithmetic, ZMod, modulo}
+use Rattle.residue.specs.RingLaws.{Ring}
 use Rattle.monomial.specs.Rows.{Row}
 use Rattle.monomial.specs.Orders.{variables}
-use Rattle.monomial.specs.Ordering.{Monomials, rows, Grevlex}
+use Rattle.monomial.specs.Ordering.{Monomials, monomials, Grevlex}
 use Rattle.monomial.proofs.LexOrder.{lex-order, variables-rank}
-use Rattle.groebner.specs.Polynomials.{_∈_, Poly}
+use Rattle.answer.specs.Outcomes.{passed}
+use Rattle.groebner.specs.Polynomials.{Poly}
 use Rattle.groebner.specs.Lines.{Line, Reducible, polynomial}
 use Rattle.groebner.specs.Ideals.{combine, Ideal, IdealOf}
 use Rattle.groebner.specs.Bases.{Reduced}
-use Rattle.groebner.specs.Standard.{Finite, Lists}
+use Rattle.groebner.specs.Standard.{Finite}
+use Rattle.groebner.specs.Conversions.{Lists}
 use Rattle.groebner.proofs.Terms.{coef-nil, coef-append}
 use Rattle.groebner.proofs.Ideals.{ideal-zero, ideal-add, ideal-gen, ideal-same}
 use Rattle.groebner.proofs.Lists.{in-map, of-map}
 use Rattle.groebner.proofs.RisingLists.{rising-unique}
 use Rattle.groebner.proofs.ZeroDimension.{zero-dimensional-iff, irreducible-list}
 use Rattle.groebner.proofs.Instance.{ground, one-basis}
-use Rattle.tabtext.specs.Text.{Bytes, Each, Term, Form, text}
-use Rattle.basis.specs.Checks.{passed}
-use Rattle.reduction.specs.Generators.{generator, generators}
+use Rattle.lines.specs.Terms.{Term}
+use Rattle.tabtext.specs.Text.{Form, text}
+use Rattle.staircase.specs.TermLines.{lineOf, linesOf}
 use Rattle.convert.specs.Written.{written}
 use Rattle.convert.specs.Outcome.{Converts, Outcome}
 use Rattle.convert.specs.Contract.{InputLines, grevlexLines}
-use Rattle.convert.proofs.Conversions.{rising-list, conversion-standard}
+use Rattle.convert.proofs.Conversions.{converts-standard}
 use Rattle.convert.proofs.ConvertedChecks.{passed-output}
 use Rattle.convert.proofs.OutcomeCases.{Early, Reached, outcome-cases}
 use Rattle.convert.proofs.OutputLines.{input-lines}
@@ -59,17 +63,17 @@ module _ (p : ℕ) (prime : Prime p) (n : ℕ) (G K : List (Line (ZMod p) (Row n
 
   -- The lines are a reduced grevlex Groebner basis with finitely many irreducible monomials.
   abbrev Good : List (Line (ZMod p) (Row n)) → Type 0
-  Good G = Reduced (modulo p h) (rows n) (Grevlex n) G × Finite (λ m. ¬ Reducible (rows n) G m)
+  Good G = Reduced (modulo p h) (monomials n) (Grevlex n) G × Finite (λ m. ¬ Reducible (monomials n) G m)
 
-  standard-list : (G H : List (Line (ZMod p) (Row n))) (B : List (Row n)) → Good G → Converts p h n G H B → Lists (λ m. ¬ Reducible (rows n) H m) B
+  standard-list : (G H : List (Line (ZMod p) (Row n))) (B : List (Row n)) → Good G → Converts p h n G H B → Lists (λ m. ¬ Reducible (monomials n) H m) B
   standard-list G H B (reduced, finite) c =
-      let B₀ = irreducible-list n G (zero-dimensional-iff n G .1 finite) in conversion-standard p prime n G (reduced .lines) (reduced .groebner) (B₀ .0) (B₀ .1) H B c .0
+      let B₀ = irreducible-list n G (zero-dimensional-iff n G .1 finite) in converts-standard p prime n G (reduced .lines) (reduced .groebner) (B₀ .0) (B₀ .1) H B c .0
 
   pub conversion-same : Good G → Good K → (H J : List (Line (ZMod p) (Row n))) (B C : List (Row n)) → Converts p h n G H B → Converts p h n K J C → (H ≡ J) × (B ≡ C)
   conversion-same good good′ H J B C a b = (
     e,
-    rising-unique (lex-order n (variables n) (variables-rank n)) B C (rising-list _ B (a .ascending)) (rising-list _ C (b .ascending))
-        (λ m i. listC .all m (subst (λ H. ¬ Reducible (rows n) H m) e (listB .only m i))) (λ m i. listB .all m (subst (λ H. ¬ Reducible (rows n) H m) (sym e) (listC .only m i))),
+    rising-unique (lex-order n (variables n) (variables-rank n)) B C (a .ascending) (b .ascending)
+        (λ m i. listC .all m (subst (λ H. ¬ Reducible (monomials n) H m) e (listB .only m i))) (λ m i. listB .all m (subst (λ H. ¬ Reducible (monomials n) H m) (sym e) (listC .only m i))),
   )
     where
       ring : Ring (modulo p h)
@@ -77,23 +81,23 @@ module _ (p : ℕ) (prime : Prime p) (n : ℕ) (G K : List (Line (ZMod p) (Row n
 
       e : H ≡ J
       e = one-basis p prime n (variables n) (variables-rank n) H J (a .reduced) (b .reduced) (a .rising) (b .rising) (λ f. (
-        λ x. b .ideal f .0 (ideal-within ring (rows n) G K (λ g. same g .0) f (a .ideal f .1 x)),
-        λ x. a .ideal f .0 (ideal-within ring (rows n) K G (λ g. same g .1) f (b .ideal f .1 x)),
+        λ x. b .ideal f .0 (ideal-within ring (monomials n) G K (λ g. same g .0) f (a .ideal f .1 x)),
+        λ x. a .ideal f .0 (ideal-within ring (monomials n) K G (λ g. same g .1) f (b .ideal f .1 x)),
       ))
 
-      listB : Lists (λ m. ¬ Reducible (rows n) H m) B
+      listB : Lists (λ m. ¬ Reducible (monomials n) H m) B
       listB = standard-list G H B good a
 
-      listC : Lists (λ m. ¬ Reducible (rows n) J m) C
+      listC : Lists (λ m. ¬ Reducible (monomials n) J m) C
       listC = standard-list K J C good′ b
 
 -- out is the text of the conversion of the poly lines ls.
 pub record Result (p : ℕ) (h : 1 < p) (n : ℕ) (ls : List (List Term)) (out : Bytes) : Type 0 where
-  pub reduced : Reduced (modulo p h) (rows n) (Grevlex n) (generators p h n ls)
-  pub finite : Finite (λ m. ¬ Reducible (rows n) (generators p h n ls) m)
+  pub reduced : Reduced (modulo p h) (monomials n) (Grevlex n) (linesOf p h n ls)
+  pub finite : Finite (λ m. ¬ Reducible (monomials n) (linesOf p h n ls) m)
   pub H : List (Line (ZMod p) (Row n))
   pub B : List (Row n)
-  pub converts : Converts p h n (generators p h n ls) H B
+  pub converts : Converts p h n (linesOf p h n ls) H B
   pub output : out ≡ written p h n H B
 
 abbrev pub ResultOf : (p n : ℕ) → List (List Term) → Bytes → Type 0
@@ -108,7 +112,7 @@ module _ (p : ℕ) (k : 1 < p) (n : ℕ) where
       at (inl (number, line, low, high, e)) = let z : _≡_ {A = ℕ} 0 1 = cc in absurd (omega arith)
       at (inr r) =
           let b = r .basis in
-          let own : InputLines (text (grevlexLines p n ls)) p k n (generators p k n ls) = record { terms = ls; form = form; stands = refl; lines = refl } in
+          let own : InputLines (text (grevlexLines p n ls)) p k n (linesOf p k n ls) = record { terms = ls; form = form; stands = refl; lines = refl } in
           let (e, f, g) = input-unique _ (input-lines _ b (r .passes .modulus .prime .above-one) (r .passes)) own in
           let here : ResultOf (b .p) (b .n) (b .generators) out = (
             r .passes .modulus .prime,
@@ -117,14 +121,14 @@ module _ (p : ℕ) (k : 1 < p) (n : ℕ) where
           subst (λ (x : ℕ × ℕ × List (List Term)). ResultOf (x .0) (x .1) (x .2) out) (λ i. (e i, f i, g i)) here
 
   module _ (ls ks : List (List Term)) (same : (ts : List Term) → (ts ∈ ls) ↔ (ts ∈ ks)) where
-    lines-among : (h : 1 < p) (ls ks : List (List Term)) → ((ts : List Term) → ts ∈ ls → ts ∈ ks) → (g : Line (ZMod p) (Row n)) → g ∈ generators p h n ls → g ∈ generators p h n ks
-    unfolding generators
-    lines-among h ls ks i g q = let r = of-map (generator p h n) ls q in Memᴰ·cast (r .2) (in-map (generator p h n) (i (r .0) (r .1)))
+    lines-among : (h : 1 < p) (ls ks : List (List Term)) → ((ts : List Term) → ts ∈ ls → ts ∈ ks) → (g : Line (ZMod p) (Row n)) → g ∈ linesOf p h n ls → g ∈ linesOf p h n ks
+    unfolding linesOf
+    lines-among h ls ks i g q = let r = of-map (lineOf p h n) ls q in Memᴰ·cast (r .2) (in-map (lineOf p h n) (i (r .0) (r .1)))
 
     results-equal : (prime : Prime p) (out out′ : Bytes) → Result p (prime .above-one) n ls out → Result p (prime .above-one) n ks out′ → out ≡ out′
     results-equal prime out out′ r s =
         let h = prime .above-one in
-        let (e, f) = conversion-same p prime n (generators p h n ls) (generators p h n ks)
+        let (e, f) = conversion-same p prime n (linesOf p h n ls) (linesOf p h n ks)
         (λ g. (lines-among h ls ks (λ ts. same ts .0) g, lines-among h ks ls (λ ts. same ts .1) g)) (r .reduced, r .finite) (s .reduced, s .finite) (r .H) (s .H) (r .B) (s .B) (r .converts) (s .converts) in
         r .output ∙ ap₂ (written p h n) e f ∙ sym (s .output)
 

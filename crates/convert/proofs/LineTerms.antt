@@ -1,14 +1,14 @@
 -- The lines of a text, as terms, and the lines of polynomials that they are.
---   termsOf p h n g        the terms of a line: each coefficient and its exponents
---   text-lines             the lines of a basis, as lines of the text
---   exponents-length       a monomial in n variables has n exponents
---   exponents-each         what holds of each exponent of a monomial
---   row-of-exponents       the exponents of a monomial, as a row, are the monomial
---   generator-of-terms     the line that the terms of a line make is the line
---   generators-of-terms    so with the lines of a basis
---   Representable p h n t  a coefficient below p, and n exponents
---   terms-of-generator     the terms of the line that monic terms make are these terms
---   terms-of-generators    so with good lines
+--   termsOfLine p h n g     the terms of a line: each coefficient and its exponents
+--   text-lines              the lines of a basis, as lines of the text
+--   exponents-count         a monomial in n variables has n exponents
+--   exponents-each          what holds of each exponent of a monomial
+--   row-of-exponents        the exponents of a monomial, as a row, are the monomial
+--   generator-of-terms      the line that the terms of a line make is the line
+--   generators-of-terms     so with the lines of a basis
+--   Representable p h n t   a coefficient below p, and n exponents
+--   terms-of-generator      the terms of the line that monic terms make are these terms
+--   terms-of-generators     so with good lines
 use Prim.Native.Nat.{ℕ, zero, suc, _<_}
 use mathlib.Core.Path.{_≡_, refl, sym, ap, ap₂}
 use mathlib.Core.List.{List, [], _∷_, map}
@@ -17,21 +17,22 @@ use native.Mathlib.Bridge.{le-prop}
 use native.Mathlib.Nat.{mod-eq-of-lt}
 use native.Mathlib.Omega.{arith}
 use lib.ListN.{length}
-use Rattle.residue.specs.Field.{ZMod, modulo}
+use Rattle.lists.specs.Lists.{Each}
+use Rattle.residue.specs.Field.{ZMod, modulo, residue}
 use Rattle.monomial.specs.Rows.{Row, exponent}
 use Rattle.groebner.specs.Polynomials.{Poly}
 use Rattle.groebner.specs.Lines.{Line, polynomial}
-use Rattle.tabtext.specs.Text.{Term, Each, Number, Exponents}
-use Rattle.tabtext.specs.Text as tab
-use Rattle.basis.specs.Checks.{asRow, Monic}
-use Rattle.basis.proofs.GoodLines.{GoodTerm, GoodLine}
-use Rattle.reduction.specs.Generators.{residue, generator, generators}
-use Rattle.convert.specs.Written.{exponents, polyLine}
+use Rattle.lines.specs.Terms.{Term, asRow}
+use Rattle.lines.specs.LineTerms.{Monic}
+use Rattle.tabtext.specs.Text.{Number, Exponents, generator}
+use Rattle.checks.proofs.GoodLines.{GoodTerm, GoodLine}
+use Rattle.staircase.specs.TermLines.{lineOf, linesOf}
+use Rattle.convert.specs.Written.{exponents, asGenerator}
 
-pub exponents-length : (n : ℕ) (m : Row n) → length (exponents n m) ≡ n
+pub exponents-count : (n : ℕ) (m : Row n) → length (exponents n m) ≡ n
 unfolding exponents
-exponents-length zero m = refl
-exponents-length (suc n) m = ap suc (exponents-length n (m .1))
+exponents-count zero m = refl
+exponents-count (suc n) m = ap suc (exponents-count n (m .1))
 
 pub exponents-each : (P : ℕ → Type 0) (n : ℕ) (m : Row n) → ((i : ℕ) → i < n → P (exponent n m i)) → Each P (exponents n m)
 unfolding exponents exponent
@@ -52,29 +53,29 @@ exponents-of-row (suc n) (x ∷ e) l = ap (_∷_ x) (exponents-of-row n e (omega
 
 module _ (p : ℕ) (h : 1 < p) (n : ℕ) where
   -- The terms of a line, greatest first.
-  unfoldable pub termsOf : Line (ZMod p) (Row n) → List Term
+  unfoldable pub termsOfLine : Line (ZMod p) (Row n) → List Term
   unfolding polynomial exponents modulo
-  termsOf g = map (λ t. (t .0 .0, exponents n (t .1))) (polynomial (modulo p h) g)
+  termsOfLine g = map (λ t. (t .0 .0, exponents n (t .1))) (polynomial (modulo p h) g)
 
-  pub text-lines : (G : List (Line (ZMod p) (Row n))) → map (polyLine p h n) G ≡ map tab.generator (map termsOf G)
-  unfolding polyLine termsOf
+  pub text-lines : (G : List (Line (ZMod p) (Row n))) → map (asGenerator p h n) G ≡ map generator (map termsOfLine G)
+  unfolding asGenerator termsOfLine
   text-lines [] = refl
-  text-lines (g ∷ G) = ap (_∷_ (polyLine p h n g)) (text-lines G)
+  text-lines (g ∷ G) = ap (_∷_ (asGenerator p h n g)) (text-lines G)
 
   residue-of : (c : ZMod p) → residue p h (c .0) ≡ c
   unfolding residue
   residue-of c = Σ-prop-path (λ x. le-prop) (mod-eq-of-lt (c .1))
 
-  pub generator-of-terms : (g : Line (ZMod p) (Row n)) → generator p h n (termsOf g) ≡ g
-  unfolding generator termsOf polynomial
+  pub generator-of-terms : (g : Line (ZMod p) (Row n)) → lineOf p h n (termsOfLine g) ≡ g
+  unfolding lineOf termsOfLine polynomial
   generator-of-terms g = λ i. (row-of-exponents n (g .0) i, tail (g .1) i)
     where
       tail : (f : Poly (ZMod p) (Row n)) → map (λ (u : Term). (residue p h (u .0), asRow n (u .1))) (map (λ (t : ZMod p × Row n). (t .0 .0, exponents n (t .1))) f) ≡ f
       tail [] = refl
       tail (t ∷ f) = λ i. (residue-of (t .0) i, row-of-exponents n (t .1) i) ∷ tail f i
 
-  pub generators-of-terms : (G : List (Line (ZMod p) (Row n))) → generators p h n (map termsOf G) ≡ G
-  unfolding generators
+  pub generators-of-terms : (G : List (Line (ZMod p) (Row n))) → linesOf p h n (map termsOfLine G) ≡ G
+  unfolding linesOf
   generators-of-terms [] = refl
   generators-of-terms (g ∷ G) = ap₂ _∷_ (generator-of-terms g) (generators-of-terms G)
 
@@ -83,8 +84,8 @@ module _ (p : ℕ) (h : 1 < p) (n : ℕ) where
   Representable t = (t .0 < p) × (length (t .1) ≡ n)
 
   -- The terms of the line that monic terms make.
-  pub terms-of-generator : (ts : List Term) → Monic ts → Each Representable ts → termsOf (generator p h n ts) ≡ ts
-  unfolding generator termsOf polynomial residue modulo
+  pub terms-of-generator : (ts : List Term) → Monic ts → Each Representable ts → termsOfLine (lineOf p h n ts) ≡ ts
+  unfolding lineOf termsOfLine polynomial residue modulo
   terms-of-generator [] m w = absurd m
   terms-of-generator (t ∷ ts) m w = ap₂ _∷_ (λ i. (sym m i, exponents-of-row n (t .1) (w .0 .1) i)) (tail ts (w .1))
     where
@@ -97,8 +98,8 @@ module _ (p : ℕ) (h : 1 < p) (n : ℕ) where
   representable [] a b = tt
   representable (t ∷ ts) a b = ((a .0 .1, b .0 .1 .0), representable ts (a .1) (b .1))
 
-  pub terms-of-generators : (ls : List (List Term)) → Each (GoodLine p n) ls → map termsOf (generators p h n ls) ≡ ls
-  unfolding generators
+  pub terms-of-generators : (ls : List (List Term)) → Each (GoodLine p n) ls → map termsOfLine (linesOf p h n ls) ≡ ls
+  unfolding linesOf
   terms-of-generators [] w = refl
   terms-of-generators (ts ∷ ls) w =
       ap₂ _∷_ (terms-of-generator ts (w .0 .monic) (representable ts (w .0 .terms) (w .0 .form .1))) (terms-of-generators ls (w .1))

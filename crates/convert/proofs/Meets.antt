@@ -6,12 +6,13 @@ use Prim.Native.Nat.{ℕ, _≤_}
 use native.Mathlib.Omega.{arith}
 use lib.ListN.{length, length-append, take, drop}
 use lib.Seq.{take-append-seam}
-use Rattle.tabtext.specs.Text.{Bytes}
-use Rattle.basis.specs.Checks.{Judged, refused, passed}
+use Rattle.lists.specs.Lists.{Bytes}
+use Rattle.answer.specs.Outcomes.{Judged, refused, passed}
+use Rattle.answer.specs.Answers.{pair, returned, after}
+use Rattle.answer.specs.declared.Answer.{Answer}
+use Rattle.answer.specs.declared.Answer.the-variants.{Accepted}
 use Rattle.convert.specs.Outcome.{Outcome}
-use Rattle.convert.specs.Contract.{pair, returned, after, Usable, Systems, Meets}
-use Rattle.convert.specs.declared.Answer.{Answer}
-use Rattle.convert.specs.declared.Answer.the-variants.{Accepted}
+use Rattle.convert.specs.Contract.{Usable, Systems, Meets}
 use Rattle.convert.proofs.OutcomeCases.{outcome-number}
 use Rattle.convert.proofs.Systems.{systems-of}
 use Rattle.convert.proofs.Usable.{usable-refused}

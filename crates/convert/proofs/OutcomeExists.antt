@@ -11,34 +11,38 @@ use mathlib.Core.Bool.{true, Bool-discrete}
 use Prim.Native.Nat.{ℕ, _<_}
 use native.Mathlib.Decide.{decLt}
 use lib.ListN.{length}
+use Rattle.lists.specs.Lists.{Bytes}
 use Rattle.residue.specs.Prime.{Prime}
 use Rattle.residue.specs.Field.{ZMod, modulo}
-use Rattle.monomial.specs.Rows.{Row, isPower, lcm}
-use Rattle.monomial.specs.Ordering.{rows, Grevlex}
+use Rattle.monomial.specs.Rows.{Row}
+use Rattle.monomial.specs.Quotients.{isPower, lcm}
+use Rattle.monomial.specs.Ordering.{monomials, Grevlex}
 use Rattle.monomial.proofs.Products.{lcm-least}
 use Rattle.monomial.proofs.GrevlexOrder.{grevlex-order}
-use Rattle.groebner.specs.Lines.{Line, Lines, Low}
+use Rattle.answer.specs.Outcomes.{Judged, refused, passed}
+use Rattle.groebner.specs.Lines.{Line, Lines}
+use Rattle.groebner.specs.Criteria.{Low}
 use Rattle.groebner.specs.Standard.{ZeroDimensional}
 use Rattle.groebner.proofs.Deciding.{as?}
 use Rattle.groebner.proofs.Decisions.{among?, below?}
 use Rattle.groebner.proofs.Computing.{by-grevlex}
 use Rattle.groebner.proofs.ZeroDimension.{zero-dimensional-tested}
 use Rattle.tabtext.specs.Sizes.{most-bytes}
-use Rattle.tabtext.specs.Text.{Bytes}
-use Rattle.basis.specs.Checks.{Basis, Judged, refused, passed, Checked}
-use Rattle.basis.proofs.Model.{judge}
-use Rattle.basis.proofs.TextChecks.{checked-iff}
 use Rattle.tabtext.specs.Readers.{readLine}
-use Rattle.basis.proofs.Passes.{Passes, passes-iff}
-use Rattle.reduction.specs.Generators.{generators}
-use Rattle.reduction.specs.Whole.{Divided, Failing, Large, Whole}
-use Rattle.reduction.proofs.WholeOutcome.{Passing, passing-iff}
+use Rattle.checks.specs.Checks.{Basis, Checked}
+use Rattle.checks.proofs.Model.{judge}
+use Rattle.checks.proofs.TextChecks.{checked-iff}
+use Rattle.checks.proofs.Passes.{GoodText, good-text-iff}
+use Rattle.staircase.specs.TermLines.{linesOf}
+use Rattle.staircase.specs.Conditions.{Divided, Failing, Large}
+use Rattle.acceptance.specs.Whole.{Whole}
+use Rattle.acceptance.proofs.WholeOutcome.{Passing, passing-iff}
 use Rattle.convert.specs.Written.{written}
 use Rattle.convert.specs.Outcome.{Fits, AfterChecks, Outcome}
 use Rattle.convert.proofs.FewIrreducible.{Few, large-or-few, few-not-large}
 use Rattle.convert.proofs.Conversions.{conversion-exists}
 use Rattle.convert.proofs.PassedLines.{passed-lines}
-use Rattle.convert.proofs.ConvertedChecks.{Output, linesIn}
+use Rattle.convert.proofs.ConvertedChecks.{Output, linesOfBasis}
 use Rattle.convert.proofs.CheckDecisions.{SmallestOrNone, divided-smallest, failing-smallest}
 use Rattle.convert.proofs.PairDecisions.{pair-by}
 use Rattle.convert.proofs.ComputedGround.{computed-laws, computed-ring}
@@ -55,7 +59,7 @@ module _ (p : ℕ) (prime : Prime p) (n : ℕ) (G : List (Line (ZMod p) (Row n))
   dimension? = as? (zero-dimensional-tested n G .1) (zero-dimensional-tested n G .0) (below? (λ i. among? (λ g. Bool-discrete (isPower n i (g .0)) true) G) n)
 
   -- Check 15.
-  unfoldable pub failing : SmallestOrNone (Failing (modulo p h) (rows n) G (Grevlex n))
+  unfoldable pub failing : SmallestOrNone (Failing (modulo p h) (monomials n) G (Grevlex n))
   unfolding failing-smallest pair-by computed-ring by-grevlex lcm
   failing = failing-smallest (computed-ring p prime n) (grevlex-order n) G low (pair-by (computed-ring p prime n) (grevlex-order n) (by-grevlex p prime n) (λ a b. (lcm n a b, lcm-least n a b)) G low division-steps)
     where
@@ -66,7 +70,7 @@ module _ (p : ℕ) (prime : Prime p) (n : ℕ) (G : List (Line (ZMod p) (Row n))
   unfolding divided-smallest computed-laws large-or-few dimension? failing
   whole-exists {A} later next = at (divided-smallest (modulo p h) (computed-laws n) G) dimension? (large-or-few n G) failing
     where
-      at : SmallestOrNone (Divided (modulo p h) (rows n) G) → Dec (ZeroDimensional n G) → Large n G ⊎ Few n G → SmallestOrNone (Failing (modulo p h) (rows n) G (Grevlex n)) → (o : Judged A) × Whole p h n G later o
+      at : SmallestOrNone (Divided (modulo p h) (monomials n) G) → Dec (ZeroDimensional n G) → Large n G ⊎ Few n G → SmallestOrNone (Failing (modulo p h) (monomials n) G (Grevlex n)) → (o : Judged A) × Whole p h n G later o
       at (inl (k, d, first)) z f s = (refused 12 k, inl (k, d, first, refl))
       at (inr u) (no z) f s = (refused 13 0, inr (u, inl (z, refl)))
       at (inr u) (yes z) (inl l) s = (refused 14 0, inr (u, inr (λ n. n z, inl (l, refl))))
@@ -87,14 +91,14 @@ module _ (p : ℕ) (prime : Prime p) (n : ℕ) (G : List (Line (ZMod p) (Row n))
       fits-exists out = elim (decLt room (length out)) [ yes l ↦ (refused 16 0, inl (l, refl)) | no l ↦ (passed out, inr (l, refl)) ]
 
 unfoldable after-exists : (input : Bytes) (room : ℕ) (c : Judged Basis) → Checked input c → (o : Judged Bytes) × AfterChecks c room o
-unfolding whole-exists output-exists generators
+unfolding whole-exists output-exists linesOf
 after-exists input room (refused k line) q = (refused k line, refl)
 after-exists input room (passed b) q =
-    let w : Passes input b = passes-iff input b .0 q in
+    let w : GoodText input b = good-text-iff input b .0 q in
     let prime : Prime (b .p) = w .modulus .prime in
     let h : 1 < b .p = prime .above-one in
-    let lines : Lines (modulo (b .p) h) (Grevlex (b .n)) (linesIn b h) = passed-lines (b .p) h (b .n) (b .generators) (w .good) in
-    let (o, x) = whole-exists (b .p) prime (b .n) (linesIn b h) lines (Output (b .p) h (b .n) (linesIn b h) room) (output-exists (b .p) prime (b .n) (linesIn b h) lines room) in
+    let lines : Lines (modulo (b .p) h) (Grevlex (b .n)) (linesOfBasis b h) = passed-lines (b .p) h (b .n) (b .generators) (w .good) in
+    let (o, x) = whole-exists (b .p) prime (b .n) (linesOfBasis b h) lines (Output (b .p) h (b .n) (linesOfBasis b h) room) (output-exists (b .p) prime (b .n) (linesOfBasis b h) lines room) in
     (o, (h, x))
 
 unfoldable pub outcome-exists : (input : Bytes) (room : ℕ) → (o : Judged Bytes) × Outcome input room o

@@ -3,19 +3,19 @@
 use mathlib.Core.List.{List}
 use Prim.Native.Nat.{ℕ, _<_}
 use native.Mathlib.Omega.{arith}
+use Rattle.lists.specs.Lists.{Bytes}
 use Rattle.residue.specs.Prime.{Prime}
 use Rattle.residue.specs.Field.{ZMod, modulo}
 use Rattle.monomial.specs.Rows.{Row}
 use Rattle.monomial.specs.Orders.{variables}
 use Rattle.monomial.proofs.LexOrder.{lex-order, variables-rank}
+use Rattle.answer.specs.Outcomes.{Judged}
 use Rattle.groebner.specs.Lines.{Line}
-use Rattle.tabtext.specs.Sizes.{most-standard}
-use Rattle.tabtext.specs.Text.{Bytes}
-use Rattle.basis.specs.Checks.{Judged}
+use Rattle.lines.specs.Sizes.{most-standard}
 use Rattle.convert.proofs.SizesSuffice.{Sized, standard-exponents, sizes-suffice}
 use Rattle.convert.proofs.FewIrreducible.{few-of}
-use Rattle.convert.proofs.Conversions.{conversion-standard}
-use Rattle.convert.proofs.ConvertedChecks.{linesIn}
+use Rattle.convert.proofs.Conversions.{converts-standard}
+use Rattle.convert.proofs.ConvertedChecks.{linesOfBasis}
 use Rattle.convert.proofs.OutcomeCases.{Reached}
 use Rattle.convert.proofs.OutputLines.{Small}
 
@@ -33,12 +33,12 @@ module _ {input : Bytes} {room : ℕ} {o : Judged Bytes} (a : Reached input room
   h = prime .above-one
 
   abbrev G : List (Line (ZMod p) (Row n))
-  G = linesIn (a .basis) h
+  G = linesOfBasis (a .basis) h
 
   pub reached-sized : Sized (modulo p h) n most-standard (a .H) × Small n (a .B)
   reached-sized =
       let (B₀, few, irreducible) = few-of n G (a .small) in
-      let (standard, count) = conversion-standard p prime n G (a .reduced .lines) (a .reduced .groebner) B₀ irreducible (a .H) (a .B) (a .converts) in
+      let (standard, count) = converts-standard p prime n G (a .reduced .lines) (a .reduced .groebner) B₀ irreducible (a .H) (a .B) (a .converts) in
       let order = lex-order n (variables n) (variables-rank n) in (
         sizes-suffice (modulo p h) n order (a .H) (a .converts .reduced) (a .B) standard most-standard (omega arith),
         record { few = omega arith; exponents = λ m i v l. omega (arith, standard-exponents (modulo p h) n order (a .H) (a .converts .reduced) (a .B) standard m i v l) },

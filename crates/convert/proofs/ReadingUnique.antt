@@ -7,15 +7,16 @@ use mathlib.Core.List.{List, [], _∷_, _++_, map, append-nil}
 use Prim.Native.Nat.{ℕ, _<_}
 use native.Mathlib.Omega.{arith}
 use lib.ListN.{length, length-append}
+use Rattle.lists.specs.Lists.{Bytes, Each}
 use Rattle.residue.specs.Field.{ZMod}
 use Rattle.monomial.specs.Rows.{Row}
 use Rattle.groebner.specs.Lines.{Line}
-use Rattle.tabtext.specs.Text.{Bytes, bytes, Each, Term, header, generator, standard, points, end, line, text, Form}
-use Rattle.tabtext.specs.Text as tab
+use Rattle.lines.specs.Terms.{Term}
+use Rattle.tabtext.specs.Text.{bytes, header, generator, standard, points, end, line, text, Form, TextLine}
 use Rattle.tabtext.proofs.Lines.{line-unique}
 use Rattle.convert.specs.Contract.{InputLines, OutputLines}
 
-pub text-unique : (n : ℕ) (ls ks : List tab.Line) → Each (Form n) ls → Each (Form n) ks → text ls ≡ text ks → ls ≡ ks
+pub text-unique : (n : ℕ) (ls ks : List TextLine) → Each (Form n) ls → Each (Form n) ks → text ls ≡ text ks → ls ≡ ks
 unfolding text
 text-unique n [] [] a b e = refl
 text-unique n [] (k ∷ ks) a b e = absurd (omega (arith, ap length e, length-append (line k) (10 ∷ text ks)))
@@ -25,7 +26,7 @@ text-unique n (l ∷ ls) (k ∷ ks) a b e =
     ap₂ _∷_ p (text-unique n ls ks (a .1) (b .1) q)
 
 -- The basis line says the number of variables of the lines after it.
-headed-unique : (w : Bytes) (p n p′ n′ : ℕ) (ls ks : List tab.Line) → Each (Form n) (header w p n ∷ ls) → Each (Form n′) (header w p′ n′ ∷ ks)
+headed-unique : (w : Bytes) (p n p′ n′ : ℕ) (ls ks : List TextLine) → Each (Form n) (header w p n ∷ ls) → Each (Form n′) (header w p′ n′ ∷ ks)
     → text (header w p n ∷ ls) ≡ text (header w p′ n′ ∷ ks) → (p ≡ p′) × (n ≡ n′) × (ls ≡ ks)
 unfolding text
 headed-unique w p n p′ n′ ls ks a b e =
@@ -34,7 +35,7 @@ headed-unique w p n p′ n′ ls ks a b e =
     (cc, same, text-unique n ls ks (a .1) (subst (λ (x : ℕ). Each (Form x) ks) (sym same) (b .1)) q)
 
 -- The terms of the poly lines among lines.
-generatorsAmong : List tab.Line → List (List Term)
+generatorsAmong : List TextLine → List (List Term)
 generatorsAmong [] = []
 generatorsAmong (header w p n ∷ ls) = generatorsAmong ls
 generatorsAmong (generator terms ∷ ls) = terms ∷ generatorsAmong ls
@@ -43,7 +44,7 @@ generatorsAmong (points count ∷ ls) = generatorsAmong ls
 generatorsAmong (end count ∷ ls) = generatorsAmong ls
 
 -- The monomials of the stairs lines among lines.
-standardAmong : List tab.Line → List (List ℕ)
+standardAmong : List TextLine → List (List ℕ)
 standardAmong [] = []
 standardAmong (header w p n ∷ ls) = standardAmong ls
 standardAmong (generator terms ∷ ls) = standardAmong ls
@@ -51,18 +52,18 @@ standardAmong (standard monomials ∷ ls) = monomials ++ standardAmong ls
 standardAmong (points count ∷ ls) = standardAmong ls
 standardAmong (end count ∷ ls) = standardAmong ls
 
-generators-first : (terms : List (List Term)) (ls : List tab.Line) → generatorsAmong (map generator terms ++ ls) ≡ terms ++ generatorsAmong ls
+generators-first : (terms : List (List Term)) (ls : List TextLine) → generatorsAmong (map generator terms ++ ls) ≡ terms ++ generatorsAmong ls
 unfolding generatorsAmong
 generators-first [] ls = refl
 generators-first (ts ∷ terms) ls = ap (_∷_ ts) (generators-first terms ls)
 
-standard-after : (terms : List (List Term)) (ls : List tab.Line) → standardAmong (map generator terms ++ ls) ≡ standardAmong ls
+standard-after : (terms : List (List Term)) (ls : List TextLine) → standardAmong (map generator terms ++ ls) ≡ standardAmong ls
 unfolding standardAmong
 standard-after [] ls = refl
 standard-after (ts ∷ terms) ls = standard-after terms ls
 
 -- Poly lines, and then lines without any.
-generators-unique : (terms terms′ : List (List Term)) (ls ks : List tab.Line) → generatorsAmong ls ≡ [] → generatorsAmong ks ≡ [] → map generator terms ++ ls ≡ map generator terms′ ++ ks → terms ≡ terms′
+generators-unique : (terms terms′ : List (List Term)) (ls ks : List TextLine) → generatorsAmong ls ≡ [] → generatorsAmong ks ≡ [] → map generator terms ++ ls ≡ map generator terms′ ++ ks → terms ≡ terms′
 generators-unique terms terms′ ls ks a b e =
     sym (append-nil terms) ∙ ap (terms ++_) (sym a) ∙ sym (generators-first terms ls) ∙ ap generatorsAmong e ∙ generators-first terms′ ks ∙ ap (terms′ ++_) b ∙ append-nil terms′
 

@@ -7,8 +7,10 @@ use mathlib.Core.Logic.{_⊎_, inl, inr}
 use mathlib.Core.Option.{Option, none, some}
 use Prim.Native.Nat.{ℕ, suc, _≤_}
 use native.Mathlib.Omega.{arith}
-use Rattle.tabtext.specs.Text.{Bytes, Term}
-use Rattle.basis.specs.Checks.{Basis, Judged, refused, checkHeader, checkTerm, checkTerms, checkGenerator, checkEnd, Remaining, malformed, generator-refused, generator-passed, end-refused, after-end, complete, Checked, malformed-header, header-refused, header-passed}
+use Rattle.lists.specs.Lists.{Bytes}
+use Rattle.answer.specs.Outcomes.{Judged, refused}
+use Rattle.lines.specs.Terms.{Term}
+use Rattle.checks.specs.Checks.{Basis, checkHeader, checkTerm, checkTerms, checkGenerator, checkEnd, Remaining, malformed, generator-refused, generator-passed, end-refused, after-end, complete, Checked, malformed-header, header-refused, header-passed}
 
 abbrev pub OfText : ℕ → Type 0
 OfText k = (2 ≤ k) × (k ≤ 11)

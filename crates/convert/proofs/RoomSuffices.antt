@@ -1,33 +1,35 @@
 -- An output of 65,536 bytes is always long enough.
---   written-width    the text of a lex basis within the sizes
+--   written-within   the text of a lex basis within the sizes
 --   room-suffices    refusal 16 does not come where the room is that
 --   program-answer   so an answer for an output of that length is not 16
 use mathlib.Core.Path.{_≡_, sym, _∙_, ap, subst}
 use mathlib.Core.List.{List, [], _∷_, _++_, map}
 use mathlib.Core.Logic.{_⊎_, inl, inr}
-use Prim.Native.Nat.{ℕ, _+_, _*_, _<_, _≤_}
+use Prim.Native.Nat.{ℕ, _<_, _≤_}
 use native.Mathlib.Omega.{arith}
 use lib.ListN.{length, length-append, length-map}
+use Rattle.lists.specs.Lists.{_∈_, Bytes, Each}
+use Rattle.lists.proofs.EachElement.{each-map, each-append}
 use Rattle.residue.specs.Prime.{largest-modulus}
 use Rattle.residue.specs.Field.{ZMod, modulo}
 use Rattle.monomial.specs.Sizes.{most-variables, most-exponent}
 use Rattle.monomial.specs.Rows.{Row, exponent}
-use Rattle.groebner.specs.Polynomials.{_∈_}
+use Rattle.answer.specs.Outcomes.{Judged, refused, passed}
+use Rattle.answer.specs.Answers.{pair, returned}
+use Rattle.answer.specs.declared.Answer.{Answer}
 use Rattle.groebner.specs.Lines.{Line, polynomial}
 use Rattle.groebner.proofs.Lists.{of-map}
-use Rattle.tabtext.specs.Sizes.{most-bytes, most-standard, most-terms}
-use Rattle.tabtext.specs.Text.{Bytes, bytes, Each, Term, header, generator, standard, points, end, text}
-use Rattle.tabtext.specs.Text as tab
+use Rattle.lines.specs.Sizes.{most-standard}
+use Rattle.lines.specs.Terms.{Term}
+use Rattle.tabtext.specs.Sizes.{most-bytes}
+use Rattle.tabtext.specs.Text.{bytes, header, generator, standard, points, end, TextLine}
 use Rattle.tabtext.specs.Printed.{printed}
 use Rattle.tabtext.proofs.Separators.{end-counted, points-counted}
 use Rattle.tabtext.proofs.Widths.{SmallRow, SmallTerm, number-width-3, header-width, counted-width, generator-width-most, standard-width-most}
-use Rattle.basis.specs.Checks.{Judged, refused, passed}
-use Rattle.convert.specs.Written.{exponents, polyLine, written}
+use Rattle.convert.specs.Written.{exponents, asGenerator, written}
 use Rattle.convert.specs.Outcome.{Fits, Outcome}
-use Rattle.convert.specs.Contract.{pair, returned, Meets}
-use Rattle.convert.specs.declared.Answer.{Answer}
-use Rattle.reduction.proofs.EachElement.{each-map, each-append}
-use Rattle.convert.proofs.LineTerms.{exponents-length, exponents-each, termsOf, text-lines}
+use Rattle.convert.specs.Contract.{Meets}
+use Rattle.convert.proofs.LineTerms.{exponents-count, exponents-each, termsOfLine, text-lines}
 use Rattle.convert.proofs.TextWidth.{widest, text-width}
 use Rattle.convert.proofs.SizesSuffice.{Sized}
 use Rattle.convert.proofs.OutcomeCases.{Early, Reached, outcome-cases}
@@ -37,26 +39,26 @@ use Rattle.convert.proofs.ReachedSizes.{reached-sized}
 module _ (p : ℕ) (h : 1 < p) (n : ℕ) (H : List (Line (ZMod p) (Row n))) (B : List (Row n)) (small : p ≤ largest-modulus) (some : 1 ≤ n) (few : n ≤ most-variables)
     (sized : Sized (modulo p h) n most-standard H) (standards : Small n B) where
   -- A line of the text is short.
-  abbrev Short : tab.Line → Type 0
+  abbrev Short : TextLine → Type 0
   Short l = length (printed l) ≤ widest
 
   row-small : (m : Row n) → ((i : ℕ) → i < n → exponent n m i ≤ most-standard) → SmallRow (exponents n m)
-  row-small m e = (omega (arith, exponents-length n m), exponents-each (λ e. e ≤ most-exponent) n m (λ i l. omega (arith, e i l)))
+  row-small m e = (omega (arith, exponents-count n m), exponents-each (λ e. e ≤ most-exponent) n m (λ i l. omega (arith, e i l)))
 
   -- A term, as a term of the text.
   abbrev as-term : ZMod p × Row n → Term
   as-term t = (t .0 .0, exponents n (t .1))
 
-  line-short : (g : Line (ZMod p) (Row n)) → g ∈ H → Short (generator (termsOf p h n g))
-  unfolding termsOf
-  line-short g i = generator-width-most (termsOf p h n g) (omega (arith, length-map (polynomial (modulo p h) g) as-term, sized .terms g i))
+  line-short : (g : Line (ZMod p) (Row n)) → g ∈ H → Short (generator (termsOfLine p h n g))
+  unfolding termsOfLine
+  line-short g i = generator-width-most (termsOfLine p h n g) (omega (arith, length-map (polynomial (modulo p h) g) as-term, sized .terms g i))
       (each-map SmallTerm as-term (polynomial (modulo p h) g) (λ t q. let c = t .0 .1 in (omega arith, row-small (t .1) (λ v l. sized .exponents g i t q v l))))
 
-  lines-short : Each Short (map (polyLine p h n) H)
-  lines-short = subst (Each Short) (sym (text-lines p h n H)) (each-map Short generator (map (termsOf p h n) H) terms)
+  lines-short : Each Short (map (asGenerator p h n) H)
+  lines-short = subst (Each Short) (sym (text-lines p h n H)) (each-map Short generator (map (termsOfLine p h n) H) terms)
     where
-      terms : (ts : List Term) → ts ∈ map (termsOf p h n) H → Short (generator ts)
-      terms ts i = let (g, j, e) = of-map (termsOf p h n) H i in subst (λ ts. Short (generator ts)) (sym e) (line-short g j)
+      terms : (ts : List Term) → ts ∈ map (termsOfLine p h n) H → Short (generator ts)
+      terms ts i = let (g, j, e) = of-map (termsOfLine p h n) H i in subst (λ ts. Short (generator ts)) (sym e) (line-short g j)
 
   back-short : Each Short (standard (map (exponents n) B) ∷ points (length B) ∷ end (length H) ∷ [])
   unfolding bytes
@@ -68,16 +70,16 @@ module _ (p : ℕ) (h : 1 < p) (n : ℕ) (H : List (Line (ZMod p) (Row n))) (B :
     ),
   )
 
-  pub written-width : length (written p h n H B) ≤ most-bytes
+  pub written-within : length (written p h n H B) ≤ most-bytes
   unfolding written bytes
-  written-width =
-      let back : List tab.Line = standard (map (exponents n) B) ∷ points (length B) ∷ end (length H) ∷ [] in
+  written-within =
+      let back : List TextLine = standard (map (exponents n) B) ∷ points (length B) ∷ end (length H) ∷ [] in
       let front : Short (header (bytes "lex") p n) = omega (arith, header-width (bytes "lex") p n, number-width-3 p (omega arith), number-width-3 n (omega arith)) in
       omega (
         arith,
-        text-width widest ((header (bytes "lex") p n ∷ map (polyLine p h n) H) ++ back) (front, each-append Short (map (polyLine p h n) H) back lines-short back-short),
-        length-append (map (polyLine p h n) H) back,
-        length-map H (polyLine p h n),
+        text-width widest ((header (bytes "lex") p n ∷ map (asGenerator p h n) H) ++ back) (front, each-append Short (map (asGenerator p h n) H) back lines-short back-short),
+        length-append (map (asGenerator p h n) H) back,
+        length-map H (asGenerator p h n),
         sized .lines some,
       )
 
@@ -87,9 +89,9 @@ reached-fits {line = line} a = at (a .fits)
   where
     at : ¬ Fits most-bytes (written (a .basis .p) (a .passes .modulus .prime .above-one) (a .basis .n) (a .H) (a .B)) (refused 16 line)
     at (inl (l, e)) =
-        let (some, few) = a .passes .variables in
+        let v = a .passes .variables in
         let (sized, standards) = reached-sized a in
-        omega (arith, written-width (a .basis .p) (a .passes .modulus .prime .above-one) (a .basis .n) (a .H) (a .B) (a .passes .modulus .size) some few sized standards)
+        omega (arith, written-within (a .basis .p) (a .passes .modulus .prime .above-one) (a .basis .n) (a .H) (a .B) (a .passes .modulus .size) (v .some) (v .most) sized standards)
     at (inr (l, e)) = let z : _≡_ {A = ℕ} 0 1 = cc in omega arith
 
 pub room-suffices : (input : Bytes) (line : ℕ) → ¬ Outcome input most-bytes (refused 16 line)

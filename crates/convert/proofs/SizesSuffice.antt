@@ -12,24 +12,28 @@ use mathlib.Core.Logic.{_⊎_, inl, inr, ⊎-elim}
 use Prim.Native.Nat.{ℕ, _+_, _*_, _≤_, _<_}
 use native.Mathlib.Omega.{arith}
 use lib.ListN.{length, length-append, length-map}
+use Rattle.lists.specs.Lists.{_∈_, Once}
+use Rattle.lists.specs.Pairs.{Before}
 use Rattle.residue.specs.Field.{Arithmetic}
 use Rattle.monomial.specs.Sizes.{most-variables, most-exponent}
 use Rattle.monomial.specs.Rows.{Row, exponent}
-use Rattle.monomial.specs.Ordering.{Divides, MonomialOrder, rows}
+use Rattle.monomial.specs.Ordering.{Divides, monomials}
+use Rattle.monomial.specs.OrderLaws.{MonomialOrder}
 use Rattle.monomial.proofs.AnyOrder.{asymmetric, irreflexive, divisor-below}
 use Rattle.monomial.proofs.Products.{rows-laws}
-use Rattle.groebner.specs.Polynomials.{_∈_, Poly, Polynomial}
-use Rattle.groebner.specs.Lines.{Once, Before, Line, polynomial, Reducible}
-use Rattle.groebner.specs.Bases.{Clear, Reduced}
-use Rattle.groebner.specs.Standard.{Lists}
+use Rattle.groebner.specs.Polynomials.{Poly, Polynomial}
+use Rattle.groebner.specs.Lines.{Line, polynomial, Reducible}
+use Rattle.groebner.specs.Bases.{Reduced}
+use Rattle.groebner.specs.Criteria.{Clear}
+use Rattle.groebner.specs.Conversions.{Lists}
+use Rattle.groebner.specs.RisingLists.{leads}
 use Rattle.groebner.proofs.Lists.{pigeon, once-append, of-map}
 use Rattle.groebner.proofs.Terms.{all-at}
 use Rattle.groebner.proofs.Ground.{divides-trans}
 use Rattle.groebner.proofs.Buchberger.{before-or}
 use Rattle.groebner.proofs.Clear.{clear-iff}
-use Rattle.groebner.specs.RisingLists.{leads}
-use Rattle.tabtext.specs.Sizes.{most-standard, most-terms, most-lines}
 use Rattle.groebner.proofs.Counting.{Divisors, exponent-bounded, few-above, bound-monotone}
+use Rattle.lines.specs.Sizes.{most-standard, most-terms, most-lines}
 
 pub record Sized {F : Type 0} (R : Arithmetic F) (n D : ℕ) (G : List (Line F (Row n))) : Type 0 where
   pub lines : 0 < n → length G + D ≤ 1 + n * D
@@ -46,8 +50,8 @@ leads-once : {F M : Type 0} (l : List (Line F M)) → ((f g : Line F M) → Befo
 leads-once [] h = tt
 leads-once (f ∷ l) h = (λ i. let (g, j, e) = of-map (λ g. g .0) l i in h f g (inl (refl, j)) e, leads-once l (λ f g b. h f g (inr b)))
 
-module _ {F : Type 0} (R : Arithmetic F) (n : ℕ) {lt : Row n → Row n → Type 0} (ord : MonomialOrder (rows n) lt) (G : List (Line F (Row n))) (reduced : Reduced R (rows n) lt G) where
-  clear : Clear R (rows n) G
+module _ {F : Type 0} (R : Arithmetic F) (n : ℕ) {lt : Row n → Row n → Type 0} (ord : MonomialOrder (monomials n) lt) (G : List (Line F (Row n))) (reduced : Reduced R (monomials n) lt G) where
+  clear : Clear R (monomials n) G
   clear = clear-iff R (rows-laws n) G .1 (reduced .once, reduced .clear)
 
   lead-in : (g : Line F (Row n)) → (R .one, g .0) ∈ polynomial R g
@@ -55,25 +59,25 @@ module _ {F : Type 0} (R : Arithmetic F) (n : ℕ) {lt : Row n → Row n → Typ
   lead-in g = List·Memᴰ·head refl
 
   -- Two lines are one, or the leading monomial of the second divides no monomial of the first.
-  same-or-clear : (g h : Line F (Row n)) → g ∈ G → h ∈ G → (g ≡ h) ⊎ ((c : F) (m : Row n) → (c, m) ∈ polynomial R g → ¬ Divides (rows n) (h .0) m)
+  same-or-clear : (g h : Line F (Row n)) → g ∈ G → h ∈ G → (g ≡ h) ⊎ ((c : F) (m : Row n) → (c, m) ∈ polynomial R g → ¬ Divides (monomials n) (h .0) m)
   same-or-clear g h i j = ⊎-elim inl (λ b. inr (λ c m q. ⊎-elim (λ x. all-at (clear g h x .0) q) (λ x. all-at (clear h g x .1) q) b)) (before-or g h G i j)
 
-  pub tail-irreducible : (g : Line F (Row n)) → g ∈ G → (c : F) (m : Row n) → (c, m) ∈ g .1 → ¬ Reducible (rows n) G m
+  pub tail-irreducible : (g : Line F (Row n)) → g ∈ G → (c : F) (m : Row n) → (c, m) ∈ g .1 → ¬ Reducible (monomials n) G m
   unfolding polynomial
-  tail-irreducible g i c m q (h, j, v) = ⊎-elim (λ e. above (subst (λ (x : Line F (Row n)). Divides (rows n) (x .0) m) (sym e) v)) (λ free. free c m (List·Memᴰ·tail q) v) (same-or-clear g h i j)
+  tail-irreducible g i c m q (h, j, v) = ⊎-elim (λ e. above (subst (λ (x : Line F (Row n)). Divides (monomials n) (x .0) m) (sym e) v)) (λ free. free c m (List·Memᴰ·tail q) v) (same-or-clear g h i j)
     where
       below : lt m (g .0)
       below = all-at (reduced .lines .falling g i .0) q
 
-      above : ¬ Divides (rows n) (g .0) m
+      above : ¬ Divides (monomials n) (g .0) m
       above d = ⊎-elim (λ e. irreflexive ord (subst (lt m) e below)) (λ l. asymmetric ord l below) (divisor-below (rows-laws n) ord d)
 
-  module _ (B : List (Row n)) (irreducible : Lists (λ m. ¬ Reducible (rows n) G m) B) where
+  module _ (B : List (Row n)) (irreducible : Lists (λ m. ¬ Reducible (monomials n) G m) B) where
     pub lead-divisors : (g : Line F (Row n)) → g ∈ G → Divisors n (g .0) B
-    lead-divisors g i d v proper = irreducible .all d (λ (h, j, w). ⊎-elim (λ e. cycle (subst (λ (x : Line F (Row n)). Divides (rows n) (x .0) d) (sym e) w))
+    lead-divisors g i d v proper = irreducible .all d (λ (h, j, w). ⊎-elim (λ e. cycle (subst (λ (x : Line F (Row n)). Divides (monomials n) (x .0) d) (sym e) w))
         (λ free. free (R .one) (g .0) (lead-in g) (divides-trans (rows-laws n) w v)) (same-or-clear g h i j))
       where
-        cycle : ¬ Divides (rows n) (g .0) d
+        cycle : ¬ Divides (monomials n) (g .0) d
         cycle w = ⊎-elim proper (λ l. ⊎-elim (λ e. irreflexive ord (subst (lt d) e l)) (λ k. asymmetric ord k l) (divisor-below (rows-laws n) ord w)) (divisor-below (rows-laws n) ord v)
 
     standard-divisors : (m : Row n) → m ∈ B → Divisors n m B
@@ -88,10 +92,10 @@ module _ {F : Type 0} (R : Arithmetic F) (n : ℕ) {lt : Row n → Row n → Typ
     -- The leading monomials and the irreducible ones are all different.
     all-once : Once (leads G ++ B)
     all-once = once-append (leads G) B (leads-once G (λ f g b e. all-at (clear f g b .0) (lead-in f) (rw e (itself g)))) (irreducible .once)
-        (λ m i j. let (g, k, e) = of-map (λ g. g .0) G i in irreducible .only m j (g, k, subst (Divides (rows n) (g .0)) (sym e) (itself g)))
+        (λ m i j. let (g, k, e) = of-map (λ g. g .0) G i in irreducible .only m j (g, k, subst (Divides (monomials n) (g .0)) (sym e) (itself g)))
       where
-        itself : (g : Line F (Row n)) → Divides (rows n) (g .0) (g .0)
-        itself g = (rows n .one, sym (rows-laws n .one-mul (g .0)))
+        itself : (g : Line F (Row n)) → Divides (monomials n) (g .0) (g .0)
+        itself g = (monomials n .one, sym (rows-laws n .one-mul (g .0)))
 
     tail-short : (g : Line F (Row n)) → g ∈ G → length (g .1) ≤ length B
     tail-short g i = omega (

@@ -5,17 +5,17 @@ use mathlib.Core.List.{List}
 use mathlib.Core.Logic.{_⊎_, inl, inr}
 use Prim.Native.Nat.{ℕ, _<_}
 use native.Mathlib.Omega.{arith}
+use Rattle.lists.specs.Lists.{Bytes}
 use Rattle.residue.specs.Prime.{Prime}
-use Rattle.residue.specs.Field.{ZMod, modulo}
+use Rattle.residue.specs.Field.{ZMod}
 use Rattle.monomial.specs.Rows.{Row}
+use Rattle.answer.specs.Outcomes.{passed}
 use Rattle.groebner.specs.Lines.{Line}
-use Rattle.tabtext.specs.Text.{Bytes}
-use Rattle.basis.specs.Checks.{passed}
 use Rattle.convert.specs.Written.{written}
 use Rattle.convert.specs.Outcome.{Outcome}
 use Rattle.convert.specs.Contract.{OutputLines, Systems}
 use Rattle.convert.proofs.Conversions.{conversion-systems}
-use Rattle.convert.proofs.ConvertedChecks.{linesIn, passed-output}
+use Rattle.convert.proofs.ConvertedChecks.{linesOfBasis, passed-output}
 use Rattle.convert.proofs.OutcomeCases.{Early, Reached, outcome-cases}
 use Rattle.convert.proofs.OutputLines.{written-lines, input-lines}
 use Rattle.convert.proofs.ReachedSizes.{reached-sized}
@@ -34,10 +34,10 @@ module _ (input : Bytes) (room : ℕ) (out : Bytes) (a : Reached input room (pas
   h = prime .above-one
 
   abbrev G : List (Line (ZMod p) (Row n))
-  G = linesIn (a .basis) h
+  G = linesOfBasis (a .basis) h
 
   output : OutputLines (written p h n (a .H) (a .B)) p h n (a .H)
-  output = let (some, few) = a .passes .variables in written-lines p h n (a .H) (a .B) (a .passes .modulus .size) some few (reached-sized a .0) (reached-sized a .1)
+  output = let v = a .passes .variables in written-lines p h n (a .H) (a .B) (a .passes .modulus .size) (v .some) (v .most) (reached-sized a .0) (reached-sized a .1)
 
   reached-systems : Systems input out
   reached-systems = record {

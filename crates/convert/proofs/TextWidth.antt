@@ -8,20 +8,22 @@ use mathlib.Core.List.{List, [], _∷_, _++_, map}
 use native.Mathlib.Nat.{mul-suc}
 use native.Mathlib.Omega.{arith}
 use lib.ListN.{length, length-append, length-map}
+use Rattle.lists.specs.Lists.{_∈_, Bytes, Each}
+use Rattle.lists.proofs.EachElement.{each-at, each-of}
 use Rattle.residue.specs.Prime.{largest-modulus}
 use Rattle.monomial.specs.Sizes.{most-variables}
-use Rattle.groebner.specs.Polynomials.{_∈_}
-use Rattle.tabtext.specs.Sizes.{most-bytes, most-terms, most-lines}
-use Rattle.tabtext.specs.Text.{Bytes, bytes, Each, Term, Line, header, generator, end, line, text, Number, Exponents}
+use Rattle.lines.specs.Sizes.{most-terms, most-lines}
+use Rattle.lines.specs.Terms.{Term}
+use Rattle.tabtext.specs.Sizes.{most-bytes}
+use Rattle.tabtext.specs.Text.{bytes, TextLine, header, generator, end, line, text, Number, Exponents}
 use Rattle.tabtext.specs.Printed.{printed}
 use Rattle.tabtext.proofs.Separators.{end-counted}
 use Rattle.tabtext.proofs.Widths.{SmallTerm, number-width-3, header-width, counted-width, generator-width-most}
-use Rattle.basis.specs.Checks.{Basis}
-use Rattle.basis.proofs.GoodLines.{GoodTerm, GoodLine}
-use Rattle.basis.proofs.Passes.{Passes}
-use Rattle.reduction.proofs.EachElement.{each-at, each-of}
+use Rattle.checks.specs.Checks.{Basis}
+use Rattle.checks.proofs.GoodLines.{GoodTerm, GoodLine}
+use Rattle.checks.proofs.Passes.{GoodText}
 
-pub text-width : (k : ℕ) (ls : List Line) → Each (λ l. length (printed l) ≤ k) ls → length (text ls) ≤ k * length ls
+pub text-width : (k : ℕ) (ls : List TextLine) → Each (λ l. length (printed l) ≤ k) ls → length (text ls) ≤ k * length ls
 unfolding text printed
 text-width k [] h = omega arith
 text-width k (l ∷ ls) h =
@@ -47,18 +49,18 @@ unfolding bytes
 generators-short p n k [] a b c g = (omega (arith, ap length (end-counted k), counted-width (bytes "end") k, number-width-3 k (omega arith)), tt)
 generators-short p n k (ts ∷ ls) a b c g = (generator-short p n ts a b (g .0), generators-short p n k ls a b c (g .1))
 
-pub passes-width : (s : Bytes) (b : Basis) → Passes s b → length s ≤ most-bytes
+pub passes-width : (s : Bytes) (b : Basis) → GoodText s b → length s ≤ most-bytes
 unfolding bytes
 passes-width s b h =
-    let ls : List Line = map generator (b .generators) ++ (end (length (b .generators)) ∷ []) in
+    let ls : List TextLine = map generator (b .generators) ++ (end (length (b .generators)) ∷ []) in
     let front : length (printed (header (bytes "grevlex") (b .p) (b .n))) ≤ widest =
     let a = h .modulus .size in
-    let c = h .variables .1 in
+    let c = h .variables .most in
     omega (arith, header-width (bytes "grevlex") (b .p) (b .n), number-width-3 (b .p) (omega arith), number-width-3 (b .n) (omega arith)) in
     omega (
       arith,
       ap length (h .stands),
-      text-width widest (header (bytes "grevlex") (b .p) (b .n) ∷ ls) (front, generators-short (b .p) (b .n) (length (b .generators)) (b .generators) (h .modulus .size) (h .variables .1) (h .size) (h .good)),
+      text-width widest (header (bytes "grevlex") (b .p) (b .n) ∷ ls) (front, generators-short (b .p) (b .n) (length (b .generators)) (b .generators) (h .modulus .size) (h .variables .most) (h .size) (h .good)),
       length-append (map generator (b .generators)) (end (length (b .generators)) ∷ []),
       length-map (b .generators) generator,
       h .size,

@@ -1,29 +1,34 @@
--- What the last check comes to (document 01, refusal 16).
---   Finished out was left r     the output `out` and the bytes `was` before: the bytes afterwards, and the answer
---   FinishedBasis b was left r  the same for the output of a basis b that passed checks 2 to 15
-use Prim.Native.Nat.{_<_}
+-- Inner contracts. The conversion of a basis that passed checks 2 to 15, and check 16 (document 01, refusal 16).
+--   PassedBasis l cells b         b passed checks 2 to 15, and has the irreducible monomials l and the multiplication rows `cells`
+--   FinishedBasis b was left r    what the output bytes `was` and the answer come to
+use Prim.Native.Nat.{ℕ, _<_}
 use mathlib.Core.Path.{_≡_}
 use mathlib.Core.List.{List}
 use lib.ListN.{length}
+use Rattle.lists.specs.Lists.{Bytes}
+use Rattle.residue.specs.Prime.{Modulus}
 use Rattle.residue.specs.Field.{ZMod}
+use Rattle.monomial.specs.Sizes.{VariableCount}
 use Rattle.monomial.specs.Rows.{Row}
+use Rattle.answer.specs.Finished.{Finished}
+use Rattle.answer.specs.declared.Answer.{Answer}
 use Rattle.groebner.specs.Lines.{Line}
-use Rattle.tabtext.specs.Text.{Bytes}
-use Rattle.basis.specs.Checks.{passed}
-use Rattle.basis.specs.Held.{Basis}
-use Rattle.basis.specs.declared.refusal.Refusal.the-variants.{NoRoom}
-use Rattle.reduction.specs.HeldLines.{linesOf}
+use Rattle.lines.specs.Bases.{StoredBasis}
+use Rattle.staircase.specs.StoredLines.{storedLines}
+use Rattle.staircase.specs.declared.irreducible.Irreducibles.{Irreducibles}
+use Rattle.multiplication.specs.Rows.{most-cells, tablesOf}
+use Rattle.acceptance.specs.Answers.{Convertible}
 use Rattle.convert.specs.Written.{written}
 use Rattle.convert.specs.Outcome.{Converts}
-use Rattle.convert.specs.Contract.{after}
-use Rattle.convert.specs.declared.Answer.{Answer}
-use Rattle.convert.specs.declared.Answer.the-variants.{Accepted, Refused}
 
-pub record Finished (out was left : Bytes) (r : Answer) : Type 0 where
-  pub short : length was < length out → (r ≡ Refused NoRoom 0) × (left ≡ was)
-  pub enough : ¬ (length was < length out) → (r ≡ Accepted (length out)) × (left ≡ after (passed out) was)
+-- What is known of a basis that passed checks 2 to 15.
+pub record PassedBasis (l : Irreducibles) (cells : List ℕ) (b : StoredBasis) : Type 0 where
+  pub modulus : Modulus (b .p)
+  pub variables : VariableCount (b .n)
+  pub size : length cells ≡ most-cells
+  pub convertible : Convertible b l (tablesOf cells)
 
 -- The output is that of the lex basis and its standard monomials.
-abbrev pub FinishedBasis : Basis → Bytes → Bytes → Answer → Type 0
+abbrev pub FinishedBasis : StoredBasis → Bytes → Bytes → Answer → Type 0
 FinishedBasis b was left r = (h : 1 < b .p) → (H : List (Line (ZMod (b .p)) (Row (b .n)))) × (B : List (Row (b .n)))
-    × Converts (b .p) h (b .n) (linesOf b h) H B × Finished (written (b .p) h (b .n) H B) was left r
+    × Converts (b .p) h (b .n) (storedLines b h) H B × Finished (written (b .p) h (b .n) H B) was left r

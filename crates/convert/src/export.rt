@@ -1,9 +1,10 @@
 // The conversion for callers in other languages: a pointer and a length for each buffer.
 ghost use mathlib.Core.Path.{_≡_};
-ghost use Rattle.convert.specs.Contract.{pair, Meets};
-ghost use Rattle.convert.specs.declared.Answer.{Answer as Answers};
-use crate::Answer;
+ghost use Rattle.answer.specs.Answers.{pair};
+ghost use Rattle.answer.specs.declared.Answer.{Answer as Answers};
+ghost use Rattle.convert.specs.Contract.{Meets};
 use crate::convert;
+use answer::Answer;
 
 // Document 01's pair: 0 and the length written, or the number of the refusal and its line.
 #[repr(C)]

@@ -3,101 +3,86 @@
 //   convert   the conversion of a text
 //   export    the same for callers in other languages
 //   print     the output for a lex basis
-ghost use mathlib.Core.Path.{_≡_};
-ghost use Prim.Native.Nat.{_≤_, _<_};
-ghost use lib.ListN.{length};
-ghost use Rattle.residue.specs.Prime.{Modulus};
-ghost use Rattle.monomial.specs.Sizes.{«most-variables»};
-ghost use Rattle.store.specs.Stored.{Arrays};
-ghost use Rattle.basis.specs.Held.{held};
-ghost use Rattle.multiplication.specs.Rows.{«most-cells», tablesOf};
-ghost use Rattle.acceptance.specs.Answers.{Convertible};
-ghost use Rattle.fglm.specs.Lex.{lexIn};
-ghost use Rattle.fglm.specs.Found.{linesOf, standardOf, Printable};
-ghost use Rattle.convert.specs.Written.{written};
-ghost use Rattle.convert.specs.Finished.{Finished, FinishedBasis};
+ghost use Prim.Native.Nat.{_<_};
+ghost use Rattle.answer.specs.Finished.{Finished};
+ghost use Rattle.lines.specs.Bases.{basisIn, Stored};
+ghost use Rattle.fglm.specs.Lex.{lexIn, StoredLex};
+ghost use Rattle.convert.specs.LexText.{ToPrint, writtenOf};
+ghost use Rattle.convert.specs.Finished.{PassedBasis, FinishedBasis};
 ghost use Rattle.convert.specs.Contract.{Meets};
 use crate::print::output_width;
 use crate::print::put_output;
 use acceptance::text::check_text;
-use basis::Shape;
-use basis::Verdict;
-use basis::refusal::Refusal;
+use answer::Answer;
+use answer::Refusal;
+use answer::Verdict;
 use fglm::enumeration::enumerate;
 use fglm::lex_basis::LexShape;
-use multiplication::coordinates::MAX_CELLS;
-use reduction::irreducible::Irreducibles;
-use reduction::irreducible::x1_to_xn;
+use lines::Shape;
+use lines::sizes::MAX_LINES;
+use lines::store::ALL_EXPONENTS;
+use lines::store::ALL_TERMS;
+use monomial::order::x1_to_xn;
+use multiplication::rows::MAX_CELLS;
 use residue::reciprocals::Reciprocals;
-use store::ALL_EXPONENTS;
-use store::ALL_TERMS;
+use staircase::irreducible::Irreducibles;
 use tabtext::sizes::MAX_BYTES;
-use tabtext::sizes::MAX_LINES;
 
 pub mod export;
 pub mod print;
 
-// Accepted with the length written, or a refusal and its line.
-pub enum Answer {
-    Accepted(usize),
-    Refused(Refusal, usize),
-}
-
 // The output, if it has room; otherwise nothing is written (document 01, refusal 16).
 fn finish(
     output: &mut [u8],
-    terms: &[usize],
+    counts: &[usize],
     coefficients: &[u16],
     exponents: &[u8],
-    b: LexShape,
+    lex: LexShape,
     p: u16,
     n: usize,
 ) -> Answer
-    requires { ⌜ Arrays (now terms) (now coefficients) (now exponents) × Printable p n (lexIn b (now terms) (now coefficients) (now exponents)) × Modulus p × (1 ≤ n) × (n ≤ most-variables) ⌝ }
-    ensures { λ r. ⌜ ((h : 1 < p) → Finished (written p h n (linesOf p h n (lexIn b (now (terms .entry)) (now (coefficients .entry)) (now (exponents .entry)))) (standardOf n (lexIn b (now (terms .entry)) (now (coefficients .entry)) (now (exponents .entry))))) (now (output .entry)) (now (output .exit)) r) ⌝ }
+    requires { ⌜ StoredLex lex (now counts) (now coefficients) (now exponents) (ToPrint p n) ⌝ }
+    ensures { λ r. let lent = lexIn lex (now (counts .entry)) (now (coefficients .entry)) (now (exponents .entry)) in ⌜ ((h : 1 < p) → Finished (writtenOf p h n lent) (now (output .entry)) (now (output .exit)) r) ⌝ }
 {
-    if output.len() < output_width(terms, coefficients, exponents, b, p, n) {
-        return Answer::Refused(Refusal::NoRoom, 0);
+    if output.len() < output_width(counts, coefficients, exponents, lex, p, n) {
+        return Answer::Refused(Refusal::OutputTooShort, 0);
     }
-    Answer::Accepted(put_output(&mut *output, terms, coefficients, exponents, b, p, n))
+    Answer::Accepted(put_output(&mut *output, counts, coefficients, exponents, lex, p, n))
 }
 
 // The conversion of a basis that passed checks 2 to 15, with its irreducible monomials and multiplication rows; and check 16.
 // The lines of the lex basis take the place of those of the basis.
 fn convert_basis(
     output: &mut [u8],
-    terms: &mut [usize],
+    counts: &mut [usize],
     coefficients: &mut [u16],
     exponents: &mut [u8],
     cells: &[u16],
-    b: Shape,
-    l: Irreducibles,
+    shape: Shape,
+    irreducibles: Irreducibles,
 ) -> Answer
-    requires { ⌜
-        Arrays (now terms) (now coefficients) (now exponents) × (length (now cells) ≡ most-cells) × Modulus (b .p) × ((1 ≤ b .n) × (b .n ≤ most-variables))
-        × Convertible (held b (now terms) (now coefficients) (now exponents)) l (tablesOf (now cells))
-        ⌝ }
-    ensures { λ r. ⌜ FinishedBasis (held b (now (terms .entry)) (now (coefficients .entry)) (now (exponents .entry))) (now (output .entry)) (now (output .exit)) r ⌝ }
+    requires { ⌜ Stored shape (now counts) (now coefficients) (now exponents) (PassedBasis irreducibles (now cells)) ⌝ }
+    ensures { λ r. ⌜ FinishedBasis (basisIn shape (now (counts .entry)) (now (coefficients .entry)) (now (exponents .entry))) (now (output .entry)) (now (output .exit)) r ⌝ }
 {
-    let reciprocals = Reciprocals::new(b.p);
+    let reciprocals = Reciprocals::new(shape.p);
     let lex = enumerate(
-        &mut *terms,
+        &mut *counts,
         &mut *coefficients,
         &mut *exponents,
         cells,
-        l,
+        irreducibles,
         x1_to_xn(),
         reciprocals,
-        b.n,
+        shape.n,
     );
     finish(
         &mut *output,
-        &*terms,
+        &*counts,
         &*coefficients,
         &*exponents,
         lex,
-        b.p,
-        b.n,
+        shape.p,
+        shape.n,
     )
 }
 
@@ -106,32 +91,32 @@ pub fn convert(input: &[u8], output: &mut [u8]) -> Answer
     ensures { λ r. ⌜ Meets (now (input .entry)) (now (output .entry)) (now (output .exit)) r ⌝ }
 {
     if MAX_BYTES < input.len() {
-        return Answer::Refused(Refusal::TooLong, 0);
+        return Answer::Refused(Refusal::InputTooLong, 0);
     }
-    let mut terms = [0usize; MAX_LINES];
+    let mut counts = [0usize; MAX_LINES];
     let mut coefficients = [0u16; ALL_TERMS];
     let mut exponents = [0u8; ALL_EXPONENTS];
     let mut cells = [0u16; MAX_CELLS];
     let c = check_text(
         input,
-        &mut terms,
+        &mut counts,
         &mut coefficients,
         &mut exponents,
         &mut cells,
     );
-    let b = c.shape;
-    let whole = c.whole;
-    let verdict = whole.verdict;
+    let shape = c.shape;
+    let irreducibles = c.irreducibles;
+    let verdict = c.verdict;
     match verdict {
         Verdict::Refused(r, line) => Answer::Refused(r, line),
         Verdict::Passed => convert_basis(
             &mut *output,
-            &mut terms,
+            &mut counts,
             &mut coefficients,
             &mut exponents,
             &cells,
-            b,
-            whole.irreducibles,
+            shape,
+            irreducibles,
         ),
     }
 }

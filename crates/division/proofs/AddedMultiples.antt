@@ -2,37 +2,34 @@
 --   firstMultiple p h n c u g k   the first k terms of c·u·g
 --   AddedFirst p n w₀ w c u g k   they are added
 --   term-row                      the monomial of the next term, as the code has it
---   added-start                   before the first turn
 --   added-degree                  the degree of the next term is that of the first at most
 --   added-fits                    its exponents fit
+--   added-start                   before the first turn
 --   added-turn                    one turn
 --   added-stop                    after the last turn
 use mathlib.Core.Path.{_≡_, refl, sym, _∙_, ap, ap₂}
 use mathlib.Core.List.{List, [], _∷_, _++_}
-use mathlib.Core.HLevel.{Σ-prop-path}
 use Prim.Native.Nat.{ℕ, _+_, _≤_, _<_}
-use native.Mathlib.Nat.{mod-lt}
-use native.Mathlib.Bridge.{le-prop}
 use native.Mathlib.Omega.{arith}
 use lib.ListN.{length, getD, take}
-use Rattle.residue.specs.Modular as modular
-use Rattle.residue.specs.Field.{Arithmetic, ZMod, modulo}
-use Rattle.monomial.specs.Sizes.{most-entry}
+use Rattle.residue.specs.Modular.{productMod}
+use Rattle.residue.specs.Field.{Arithmetic, ZMod, modulo, residue}
+use Rattle.residue.proofs.Residues.{residue-times}
 use Rattle.monomial.specs.Rows.{Row, exponent, product, degree}
-use Rattle.monomial.specs.Ordering.{rows}
-use Rattle.monomial.specs.Represented.{row, monomial}
+use Rattle.monomial.specs.Ordering.{monomials}
+use Rattle.monomial.specs.Represented.{row, monomial, most-entry}
 use Rattle.monomial.specs.declared.Monomial.{Monomial}
 use Rattle.monomial.proofs.Places.{row-monomial}
 use Rattle.monomial.proofs.Products.{exponent-product, degree-product}
 use Rattle.groebner.specs.Polynomials.{Poly, scale, relabel, shift, coef}
-use Rattle.tabtext.specs.declared.print.Generator.{Generator}
-use Rattle.reduction.specs.Generators.{residue}
-use Rattle.reduction.specs.Sound.{coefficientAt, monomialAt, SoundLine}
+use Rattle.lines.specs.Sizes.{most-terms}
+use Rattle.lines.specs.declared.line.Generator.{Generator}
+use Rattle.staircase.specs.Sound.{coefficientAt, monomialAt, SoundLine}
+use Rattle.staircase.proofs.ArrayRows.{no-monomial, row-at}
 use Rattle.division.specs.GrevlexPlace.{most-degree}
-use Rattle.division.specs.CoefficientArray.{Residues, Adds}
-use Rattle.reduction.proofs.ArrayRows.{blank, row-at}
+use Rattle.division.specs.CoefficientArray.{Residues, AddsPolynomial}
 use Rattle.division.proofs.GrevlexPlaces.{exponent-degree}
-use Rattle.division.proofs.AddedTerms.{residue-of, adds-none, adds-append, adds-same}
+use Rattle.division.proofs.AddedTerms.{adds-none, adds-append, adds-same}
 use Rattle.division.proofs.LineTerms.{lineTerms, line-terms-more, line-terms-all, line-degree}
 
 -- Sums, term by term.
@@ -46,48 +43,68 @@ unfolding relabel
 relabel-append s [] g = refl
 relabel-append s (t ∷ f) g = ap (_∷_ (t .0, s (t .1))) (relabel-append s f g)
 
-residue-product : (p : ℕ) (h : 1 < p) (c d : ℕ) → c < p → d < p → residue p h (modular.product p c d) ≡ modulo p h .mul (residue p h c) (residue p h d)
-unfolding modulo modular.product
-residue-product p h c d a b = Σ-prop-path (λ x. le-prop) (residue-of p h (modular.product p c d) (mod-lt _ (omega arith)) ∙ sym (ap₂ (modular.product p) (residue-of p h c a) (residue-of p h d b)))
-
 pub firstMultiple : (p : ℕ) (h : 1 < p) (n c : ℕ) → Row n → Generator → ℕ → Poly (ZMod p) (Row n)
-firstMultiple p h n c u g k = scale (modulo p h) (residue p h c) (shift (rows n) u (take k (lineTerms p h n g)))
+firstMultiple p h n c u g k = scale (modulo p h) (residue p h c) (shift (monomials n) u (take k (lineTerms p h n g)))
 
 pub record AddedFirst (p n : ℕ) (w₀ w : List ℕ) (c : ℕ) (u : Row n) (g : Generator) (k : ℕ) : Type 0 where
   pub within : k ≤ g .terms
-  pub adds : Adds p n w₀ w (λ h. firstMultiple p h n c u g k)
+  pub coefficients : length (g .coefficients) ≡ most-terms
+  pub monomials : length (g .monomials) ≡ most-terms
+  pub adds : AddsPolynomial p n w₀ w (λ h. firstMultiple p h n c u g k)
 
-pub term-row : (n : ℕ) (u : Row n) (g : Generator) (k : ℕ) (r : Monomial) → r ≡ monomial n (product n u (row n (getD (g .monomials) k blank))) → row n r ≡ product n u (row n (monomialAt g k))
+-- The monomial of term k of u·g.
+abbrev termMonomial : (n : ℕ) → Row n → Generator → ℕ → Row n
+termMonomial n u g k = product n u (row n (monomialAt g k))
+
+pub term-row : (n : ℕ) (u : Row n) (g : Generator) (k : ℕ) (r : Monomial) → r ≡ monomial n (product n u (row n (getD (g .monomials) k no-monomial)))
+    → row n r ≡ termMonomial n u g k
 unfolding monomialAt
 term-row n u g k r e = ap (row n) e ∙ row-monomial n _ ∙ ap (product n u) (sym (row-at n g k))
 
-module _ (p n : ℕ) (w₀ : List ℕ) (c : ℕ) (u : Row n) (g : Generator) where
-  pub added-start : Residues p n w₀ → AddedFirst p n w₀ w₀ c u g 0
+module _ (p n : ℕ) (u : Row n) (g : Generator) (s : SoundLine p n g) (k : ℕ) (l : k < g .terms) (d : degree n (termMonomial n u g 0) ≤ most-degree) where
+  pub added-degree : degree n (termMonomial n u g k) ≤ most-degree
+  added-degree = omega (arith, d, line-degree p n g s k l, degree-product n u (row n (monomialAt g 0)), degree-product n u (row n (monomialAt g k)))
+
+  pub added-fits : (i : ℕ) → i < n → exponent n u i + exponent n (row n (monomialAt g k)) i ≤ most-entry
+  added-fits i h = omega (arith, added-degree, exponent-degree n (termMonomial n u g k) i h, exponent-product n u (row n (monomialAt g k)) i)
+
+module _ (p n : ℕ) {w₀ : List ℕ} (c : ℕ) (u : Row n) (g : Generator) where
+  pub added-start : length (g .coefficients) ≡ most-terms → length (g .monomials) ≡ most-terms → Residues p n w₀ → AddedFirst p n w₀ w₀ c u g 0
   unfolding firstMultiple scale relabel
-  added-start r = record { within = omega arith; adds = adds-none p n w₀ r }
+  added-start a b r = record { within = omega arith; coefficients = a; monomials = b; adds = adds-none p n w₀ r }
 
-  module _ (s : SoundLine p n g) (k : ℕ) (l : k < g .terms) where
-    pub added-degree : degree n (product n u (row n (monomialAt g 0))) ≤ most-degree → degree n (product n u (row n (monomialAt g k))) ≤ most-degree
-    added-degree d = omega (arith, d, line-degree p n g s k l, degree-product n u (row n (monomialAt g 0)), degree-product n u (row n (monomialAt g k)))
+  module _ (s : SoundLine p n g) (k : ℕ) {w : List ℕ} (f : AddedFirst p n w₀ w c u g k) where
+    -- The line's terms are within its arrays.
+    a : g .terms ≤ length (g .coefficients)
+    a = omega (arith, s .few, f .coefficients)
 
-    pub added-fits : degree n (product n u (row n (monomialAt g 0))) ≤ most-degree → (i : ℕ) → i < n → exponent n u i + exponent n (row n (monomialAt g k)) i ≤ most-entry
-    added-fits d i h = omega (arith, added-degree d, exponent-degree n (product n u (row n (monomialAt g k))) i h, exponent-product n u (row n (monomialAt g k)) i)
+    b : g .terms ≤ length (g .monomials)
+    b = omega (arith, s .few, f .monomials)
 
-  module _ (s : SoundLine p n g) (a : g .terms ≤ length (g .coefficients)) (b : g .terms ≤ length (g .monomials)) where
-    module _ (k : ℕ) (l : k < g .terms) (small : c < p) where
-      first-more : (h : 1 < p) → firstMultiple p h n c u g k ++ ((residue p h (modular.product p c (coefficientAt g k)), product n u (row n (monomialAt g k))) ∷ []) ≡ firstMultiple p h n c u g (k + 1)
-      unfolding firstMultiple rows relabel scale
-      first-more h = sym (ap (λ t. scale (modulo p h) (residue p h c) (relabel (product n u) t)) (line-terms-more p h n g s a b k l)
-          ∙ ap (scale (modulo p h) (residue p h c)) (relabel-append (product n u) (take k (lineTerms p h n g)) _) ∙ scale-append (modulo p h) (residue p h c) (relabel (product n u) (take k (lineTerms p h n g))) _
-          ∙ ap (λ x. firstMultiple p h n c u g k ++ ((x, product n u (row n (monomialAt g k))) ∷ [])) (sym (residue-product p h c (coefficientAt g k) small (s .coefficients k l .1))))
+    first-more : k < g .terms → (h : 1 < p)
+        → firstMultiple p h n c u g k ++ ((residue p h (productMod p c (coefficientAt g k)), termMonomial n u g k) ∷ []) ≡ firstMultiple p h n c u g (k + 1)
+    unfolding firstMultiple monomials relabel scale productMod
+    first-more l h =
+        let R = modulo p h in
+        let r = residue p h c in
+        let first = take k (lineTerms p h n g) in
+        sym (ap (λ t. scale R r (relabel (product n u) t)) (line-terms-more p h n g s a b k l)
+        ∙ ap (scale R r) (relabel-append (product n u) first _) ∙ scale-append R r (relabel (product n u) first) _
+        ∙ ap (λ x. firstMultiple p h n c u g k ++ ((x, termMonomial n u g k) ∷ [])) (sym (residue-times p h c (coefficientAt g k))))
 
-      pub added-turn : {w w′ : List ℕ} (x : ℕ) (m : Row n) → AddedFirst p n w₀ w c u g k → x ≡ modular.product p c (coefficientAt g k) → m ≡ product n u (row n (monomialAt g k))
-          → Adds p n w w′ (λ h. (residue p h x, m) ∷ []) → AddedFirst p n w₀ w′ c u g (k + 1)
-      added-turn {w} {w′} x m f q r e = record {
-        within = omega arith;
-        adds = adds-same p n (λ h a. ap (λ t. coef (modulo p h) (rows n) t a) (ap₂ (λ y z. firstMultiple p h n c u g k ++ ((residue p h y, z) ∷ [])) q r ∙ first-more h)) (adds-append p n (f .adds) e);
-      }
+    pub added-turn : {w′ : List ℕ} → k < g .terms → {x : ℕ} {m : Row n} → x ≡ productMod p c (coefficientAt g k) → m ≡ termMonomial n u g k
+        → AddsPolynomial p n w w′ (λ h. (residue p h x, m) ∷ []) → AddedFirst p n w₀ w′ c u g (k + 1)
+    added-turn l {x} {m} q r e = record {
+      within = omega arith;
+      coefficients = f .coefficients;
+      monomials = f .monomials;
+      adds = adds-same p n (λ h v. ap (λ t. coef (modulo p h) (monomials n) t v) (next h)) (adds-append p n (f .adds) e);
+    }
+      where
+        next : (h : 1 < p) → firstMultiple p h n c u g k ++ ((residue p h x, m) ∷ []) ≡ firstMultiple p h n c u g (k + 1)
+        next h = ap₂ (λ y z. firstMultiple p h n c u g k ++ ((residue p h y, z) ∷ [])) q r ∙ first-more l h
 
-    pub added-stop : (k : ℕ) {w : List ℕ} → AddedFirst p n w₀ w c u g k → g .terms ≤ k → Adds p n w₀ w (λ h. scale (modulo p h) (residue p h c) (shift (rows n) u (lineTerms p h n g)))
+    pub added-stop : g .terms ≤ k → AddsPolynomial p n w₀ w (λ h. scale (modulo p h) (residue p h c) (shift (monomials n) u (lineTerms p h n g)))
     unfolding firstMultiple
-    added-stop k {w} f l = adds-same p n (λ h m. ap (λ x. coef (modulo p h) (rows n) (scale (modulo p h) (residue p h c) (shift (rows n) u x)) m) (line-terms-all p h n g s a b k l)) (f .adds)
+    added-stop l = adds-same p n (λ h m. ap (λ x. coef (modulo p h) (monomials n) (scale (modulo p h) (residue p h c) (shift (monomials n) u x)) m)
+        (line-terms-all p h n g s a b k l)) (f .adds)

@@ -1,12 +1,11 @@
 -- The numbers C(d + k - 1, k).
 --   below-monotone    they grow with d
---   below-one         C(k, k) = 1
 --   below-wider       and with k
 --   below-next        from k to k + 1: (k + 1)·C(d + k, k + 1) = (d + k)·C(d + k - 1, k)
 --   below-divided     so the next is that product, divided by k + 1
 --   space-value       there are 82,251 places
 --   below-space       no number with k at most 4 and d at most 36 is larger
---   below-product     the product before the division is no larger than 40·82,251
+--   below-product     the product before the division is no larger than 40 times that
 use mathlib.Core.Path.{_≡_, refl, sym, ap}
 use Prim.Native.Nat.{ℕ, zero, suc, _+_, _-_, _*_, _/_, _≤_}
 use native.Mathlib.Nat.{mul-add, add-mul, suc-mul, mul-le-mul, div-eq-of-eq-mul-right}
@@ -20,11 +19,6 @@ below-monotone zero d e h = omega arith
 below-monotone (suc k) zero e h = omega arith
 below-monotone (suc k) (suc d) zero h = absurd (omega arith)
 below-monotone (suc k) (suc d) (suc e) h = omega (arith, below-monotone (suc k) d e (omega arith), below-monotone k (suc d) (suc e) h)
-
-pub below-one : (k : ℕ) → monomialsBelow k 1 ≡ 1
-unfolding monomialsBelow
-below-one zero = refl
-below-one (suc k) = omega (arith, below-one k)
 
 below-wider-by : (k j d : ℕ) → monomialsBelow k (suc d) ≤ monomialsBelow (j + k) (suc d)
 unfolding monomialsBelow
@@ -69,10 +63,10 @@ pub space-value : space ≡ 82251
 unfolding space monomialsBelow
 space-value = refl
 
-pub below-space : (k d : ℕ) → k ≤ most-variables → d ≤ suc most-degree → monomialsBelow k d ≤ 82251
+pub below-space : (k d : ℕ) → k ≤ most-variables → d ≤ suc most-degree → monomialsBelow k d ≤ space
 unfolding space
-below-space k d h g = omega (arith, below-monotone k d (suc most-degree) g, below-wider k most-variables most-degree h, space-value)
+below-space k d h g = omega (arith, below-monotone k d (suc most-degree) g, below-wider k most-variables most-degree h)
 
 -- What the code computes on the way.
-pub below-product : (k d c : ℕ) → k ≤ most-variables → d ≤ suc most-degree → c ≡ monomialsBelow k d → (d + k) * c ≤ 3290040
-below-product k d c h g e = mul-le-mul {n₂ = 40} {m₂ = 82251} (omega arith) (omega (arith, below-space k d h g))
+pub below-product : (k d c : ℕ) → k ≤ most-variables → d ≤ suc most-degree → c ≡ monomialsBelow k d → (d + k) * c ≤ 40 * space
+below-product k d c h g e = mul-le-mul {n₂ = 40} {m₂ = space} (omega arith) (omega (arith, below-space k d h g))

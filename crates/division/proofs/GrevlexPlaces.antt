@@ -1,19 +1,19 @@
 -- The order of the places is grevlex.
---   degree-prefix        the sum of all exponents is the degree
---   prefix-degree        the sum of the first exponents is no larger
---   exponent-degree      nor is a single exponent
---   prefix-more, place-more    one exponent more
---   first-bound          the same for the first k exponents, as
---   place-bound          a monomial of degree at most d has a place below C(d + n, n)
---   place-monotone       the smaller monomial has the smaller place
---   place-injective      different monomials have different places
---   place-grevlex        the monomial at the smaller place is smaller
---   grevlex-degree       a smaller monomial has no larger degree
---   place-degree         a monomial at a place that is not larger has no larger degree
---   Down n i a b         b is a with its first exponent that is not 0, that of variable i, taken away; what is left of it less 1 goes to the first
---                        variable, and 1 to the variable after i
---   place-down           then b stands at the place before a
---   place-one            1 stands at place 0
+--   degree-prefix             the sum of all exponents is the degree
+--   prefix-degree             the sum of the first exponents is no larger
+--   exponent-degree           nor is a single exponent
+--   prefix-more, place-more   one exponent more
+--   place-bound               a monomial of degree at most d has a place below C(d + n, n)
+--   first-bound               so it is with the first k exponents
+--   place-monotone            the smaller monomial has the smaller place
+--   place-injective           different monomials have different places
+--   place-grevlex             the monomial at the smaller place is smaller
+--   grevlex-degree            a smaller monomial has no larger degree
+--   place-degree              a monomial at a place that is not larger has no larger degree
+--   Down n i a b              b is a with its first exponent that is not 0, that of variable i, taken away; it less 1 goes to the first
+--                             variable, and 1 to the variable after i
+--   place-down                then b stands at the place before a
+--   place-one                 1 stands at place 0
 use mathlib.Core.Path.{_≡_, refl, ap}
 use mathlib.Core.Logic.{_⊎_, inl, inr, ⊎-elim}
 use Prim.Native.Nat.{ℕ, zero, suc, _+_, _-_, _≤_, _<_}
@@ -63,19 +63,24 @@ module _ (n : ℕ) where
   pub first-bound : (k d : ℕ) (a : Row n) → prefixSum n a k ≤ d → placeOfFirst n a k < monomialsBelow k (suc d)
   unfolding monomialsBelow placeOfFirst
   first-bound zero d a h = omega arith
-  first-bound (suc k) d a h = omega (arith, first-bound k (prefixSum n a (suc k)) a (omega arith), below-monotone (suc k) (suc (prefixSum n a (suc k))) (suc d) (omega arith))
+  first-bound (suc k) d a h =
+      let s = prefixSum n a (suc k) in
+      omega (arith, first-bound k s a (omega arith), below-monotone (suc k) (suc s) (suc d) (omega arith))
 
   -- The sum of the first k exponents decides;
   by-sum : (k : ℕ) (a b : Row n) → prefixSum n a k < prefixSum n b k → placeOfFirst n a k < placeOfFirst n b k
   unfolding placeOfFirst
   by-sum zero a b h = absurd (omega arith)
-  by-sum (suc k) a b h = omega (arith, first-bound (suc k) (prefixSum n a (suc k)) a (omega arith), below-monotone (suc k) (suc (prefixSum n a (suc k))) (prefixSum n b (suc k)) (omega arith))
+  by-sum (suc k) a b h =
+      let s = prefixSum n a (suc k) in
+      omega (arith, first-bound (suc k) s a (omega arith), below-monotone (suc k) (suc s) (prefixSum n b (suc k)) (omega arith))
 
   -- at equal sums the last exponent that differs, where the larger is the smaller place.
   by-last : (k : ℕ) (a b : Row n) → prefixSum n a k ≡ prefixSum n b k → lex n (backwards k) b a ≡ Less → placeOfFirst n a k < placeOfFirst n b k
   unfolding placeOfFirst lex backwards
   by-last zero a b e l = absurd (equal-not-less l)
-  by-last (suc k) a b e l = ⊎-elim (λ h. omega (arith, same, by-sum k a b (omega arith))) (λ q. omega (arith, same, by-last k a b (omega arith) (q .1))) (lex-cons-less n k (backwards k) b a .0 l)
+  by-last (suc k) a b e l = ⊎-elim (λ h. omega (arith, same, by-sum k a b (omega arith))) (λ q. omega (arith, same, by-last k a b (omega arith) (q .1)))
+      (lex-cons-less n k (backwards k) b a .0 l)
     where
       same : monomialsBelow (suc k) (prefixSum n a (suc k)) ≡ monomialsBelow (suc k) (prefixSum n b (suc k))
       same = ap (monomialsBelow (suc k)) e

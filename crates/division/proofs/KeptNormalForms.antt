@@ -5,26 +5,30 @@
 use mathlib.Core.Path.{_≡_, sym, _∙_, ap, subst}
 use mathlib.Core.List.{List, [], _∷_, _++_}
 use mathlib.Core.Logic.{_⊎_, inl, inr}
-use Rattle.residue.specs.Field.{Arithmetic, Field}
-use Rattle.monomial.specs.Ordering.{Monomials, MonomialOrder}
+use Rattle.residue.specs.Field.{Arithmetic}
+use Rattle.residue.specs.RingLaws.{Field}
+use Rattle.monomial.specs.Ordering.{Monomials}
+use Rattle.monomial.specs.OrderLaws.{MonomialOrder}
 use Rattle.monomial.proofs.AnyOrder.{irreflexive, asymmetric}
 use Rattle.groebner.specs.Polynomials.{Poly, All, all-nil, all-cons, scale, shift, δ, coef, Same}
-use Rattle.groebner.specs.Lines.{Line, polynomial, Reducible, Earliest, Low}
+use Rattle.groebner.specs.Lines.{Line, polynomial, Reducible, Earliest}
+use Rattle.groebner.specs.Criteria.{Low}
 use Rattle.groebner.proofs.Modules.{self, mul-zero}
 use Rattle.groebner.proofs.Linear.{all-map, lin-append, lin-scale, lin-on, coef-lin, lin-same, lin-vanish}
 use Rattle.groebner.proofs.Terms.{all-of, no-term, coef-absent, δ-other, clean, clean-proper, clean-same}
 use Rattle.groebner.proofs.Ground.{PolynomialRing}
-use Rattle.groebner.proofs.Division.{Place, rewriting, reducible?, vanishes}
+use Rattle.groebner.proofs.Division.{LinePlace, rewriting, reducible?, vanishes}
 use Rattle.groebner.proofs.NormalForms.{Rewriting, nf, nfc, NF, NF-coef, NF-fixed}
 use Rattle.groebner.proofs.NormalCoefficients.{lin-single, nf-below}
 
-module _ {F M : Type 0} {R : Arithmetic F} {𝓜 : Monomials M} {lt : M → M → Type 0} (𝓟 : PolynomialRing R 𝓜) (ord : MonomialOrder 𝓜 lt) (G : List (Line F M)) (low : Low lt G) where
+module _ {F M : Type 0} {R : Arithmetic F} {𝓜 : Monomials M} {lt : M → M → Type 0}
+    (𝓟 : PolynomialRing R 𝓜) (ord : MonomialOrder 𝓜 lt) (G : List (Line F M)) (low : Low lt G) where
   open Arithmetic R using (zero as 𝟘, one as 𝟙, add, mul)
   open Monomials 𝓜 using (mul as prod)
   open PolynomialRing 𝓟 using (field)
   open Field field using (ring, decide)
 
-  abbrev S : Rewriting R 𝓜 (Place G)
+  abbrev S : Rewriting R 𝓜 (LinePlace G)
   S = rewriting 𝓟 ord G low
 
   pub NF-added : (f : Poly F M) (c : F) (m : M) (g : Line F M) (u : M) → Earliest 𝓜 m g G → m ≡ prod u (g .0)

@@ -5,53 +5,40 @@
 --   line-terms-more      the first k + 1 terms
 --   line-terms-all       all of them
 --   line-degree          no term has a larger degree than the first
-use mathlib.Core.Path.{_≡_, refl, sym, _∙_, ap}
+use mathlib.Core.Path.{_≡_, sym, _∙_, ap}
 use mathlib.Core.List.{List, [], _∷_, _++_, map}
-use mathlib.Core.HLevel.{Σ-prop-path}
 use Prim.Native.Nat.{ℕ, zero, suc, _+_, _≤_, _<_}
-use native.Mathlib.Nat.{mod-eq-of-lt}
-use native.Mathlib.Bridge.{le-prop}
 use native.Mathlib.Numerals.{add-one}
 use native.Mathlib.Omega.{arith}
 use lib.ListN.{length, getD, take, length-map, List·getD-map}
 use lib.Seq.{take-suc, take-all}
-use Rattle.residue.specs.Field.{ZMod, modulo}
+use Rattle.residue.specs.Field.{ZMod, modulo, residue}
 use Rattle.residue.specs.declared.Residue.{Residue}
+use Rattle.residue.proofs.Residues.{residue-one}
 use Rattle.monomial.specs.Rows.{Row, degree}
 use Rattle.monomial.specs.Represented.{row}
 use Rattle.monomial.specs.declared.Monomial.{Monomial}
 use Rattle.groebner.specs.Polynomials.{Poly}
 use Rattle.groebner.specs.Lines.{polynomial}
-use Rattle.tabtext.specs.Text.{Term}
-use Rattle.tabtext.specs.Printed.{termsOf, termsIn}
-use Rattle.tabtext.specs.declared.print.Generator.{Generator}
-use Rattle.basis.specs.Checks.{asRow}
-use Rattle.reduction.specs.Generators.{residue, generator}
-use Rattle.reduction.specs.Sound.{coefficientAt, monomialAt, SoundLine}
-use Rattle.reduction.proofs.ArrayRows.{row-of-terms}
+use Rattle.lines.specs.Terms.{Term, asRow}
+use Rattle.lines.specs.LineTerms.{termsOf, termsIn}
+use Rattle.lines.specs.declared.line.Generator.{Generator}
+use Rattle.lines.proofs.AsRow.{asRow-exponents}
+use Rattle.staircase.specs.TermLines.{lineOf}
+use Rattle.staircase.specs.Sound.{coefficientAt, monomialAt, SoundLine}
+use Rattle.staircase.proofs.LineElements.{terms-length}
 use Rattle.division.proofs.GrevlexPlaces.{grevlex-degree}
 
 module _ (p : ℕ) (h : 1 < p) (n : ℕ) where
   unfoldable pub lineTerms : Generator → Poly (ZMod p) (Row n)
-  lineTerms g = polynomial (modulo p h) (generator p h n (termsIn n g))
+  lineTerms g = polynomial (modulo p h) (lineOf p h n (termsIn n g))
 
   abbrev termOf : Term → ZMod p × Row n
   termOf t = (residue p h (t .0), asRow n (t .1))
 
-  residue-one : residue p h 1 ≡ modulo p h .one
-  unfolding residue modulo
-  residue-one = Σ-prop-path (λ x. le-prop) (mod-eq-of-lt h)
-
-  monic : (t : Term) (ts : List Term) → t .0 ≡ 1 → polynomial (modulo p h) (generator p h n (t ∷ ts)) ≡ map termOf (t ∷ ts)
-  unfolding polynomial generator
-  monic t ts e = ap (λ x. (x, asRow n (t .1)) ∷ map termOf ts) (sym residue-one ∙ ap (residue p h) (sym e))
-
-  terms-length : (t : ℕ) (cs : List Residue) (ms : List Monomial) → t ≤ length cs → t ≤ length ms → length (take t (termsOf n cs ms)) ≡ t
-  unfolding termsOf
-  terms-length zero cs ms a b = refl
-  terms-length (suc t) [] ms a b = absurd (omega arith)
-  terms-length (suc t) (c ∷ cs) [] a b = absurd (omega arith)
-  terms-length (suc t) (c ∷ cs) (m ∷ ms) a b = ap suc (terms-length t cs ms (omega arith) (omega arith))
+  monic : (t : Term) (ts : List Term) → t .0 ≡ 1 → polynomial (modulo p h) (lineOf p h n (t ∷ ts)) ≡ map termOf (t ∷ ts)
+  unfolding polynomial lineOf
+  monic t ts e = ap (λ x. (x, asRow n (t .1)) ∷ map termOf ts) (sym (residue-one p h) ∙ ap (residue p h) (sym e))
 
   terms-at : (t k : ℕ) (cs : List Residue) (ms : List Monomial) (d : Term) (x : Residue) (y : Monomial) → t ≤ length cs → t ≤ length ms → k < t
       → termOf (getD (take t (termsOf n cs ms)) k d) ≡ (residue p h (getD cs k x .0), row n (getD ms k y))
@@ -59,11 +46,11 @@ module _ (p : ℕ) (h : 1 < p) (n : ℕ) where
   terms-at zero k cs ms d x y a b l = absurd (omega arith)
   terms-at (suc t) k [] ms d x y a b l = absurd (omega arith)
   terms-at (suc t) k (c ∷ cs) [] d x y a b l = absurd (omega arith)
-  terms-at (suc t) zero (c ∷ cs) (m ∷ ms) d x y a b l = ap (λ z. (residue p h (c .0), z)) (row-of-terms n m)
+  terms-at (suc t) zero (c ∷ cs) (m ∷ ms) d x y a b l = ap (λ z. (residue p h (c .0), z)) (asRow-exponents n m)
   terms-at (suc t) (suc k) (c ∷ cs) (m ∷ ms) d x y a b l = terms-at t k cs ms d x y (omega arith) (omega arith) (omega arith)
 
   line-terms : (t : ℕ) (cs : List Residue) (ms : List Monomial) → 0 < t → t ≤ length cs → t ≤ length ms → getD cs 0 (record { 0 = 0 }) .0 ≡ 1
-      → polynomial (modulo p h) (generator p h n (take t (termsOf n cs ms))) ≡ map termOf (take t (termsOf n cs ms))
+      → polynomial (modulo p h) (lineOf p h n (take t (termsOf n cs ms))) ≡ map termOf (take t (termsOf n cs ms))
   unfolding termsOf
   line-terms zero cs ms s a b e = absurd (omega arith)
   line-terms (suc t) [] ms s a b e = absurd (omega arith)
@@ -76,13 +63,13 @@ module _ (p : ℕ) (h : 1 < p) (n : ℕ) where
     mapped = line-terms (g .terms) (g .coefficients) (g .monomials) (s .some) a b (s .monic)
 
     pub line-terms-length : length (lineTerms g) ≡ g .terms
-    unfolding termsIn
-    line-terms-length = ap length mapped ∙ length-map (termsIn n g) termOf ∙ terms-length (g .terms) (g .coefficients) (g .monomials) a b
+    line-terms-length = ap length mapped ∙ length-map (termsIn n g) termOf ∙ terms-length n g a b
 
     module _ (k : ℕ) (l : k < g .terms) where
       pub line-terms-at : getD (lineTerms g) k (termOf (0, [])) ≡ (residue p h (coefficientAt g k), row n (monomialAt g k))
       unfolding termsIn coefficientAt monomialAt
-      line-terms-at = ap (λ t. getD t k (termOf (0, []))) mapped ∙ List·getD-map termOf (termsIn n g) k (0, []) ∙ terms-at (g .terms) k (g .coefficients) (g .monomials) (0, []) _ _ a b l
+      line-terms-at = ap (λ t. getD t k (termOf (0, []))) mapped ∙ List·getD-map termOf (termsIn n g) k (0, [])
+          ∙ terms-at (g .terms) k (g .coefficients) (g .monomials) (0, []) _ _ a b l
 
       -- One term more.
       pub line-terms-more : take (k + 1) (lineTerms g) ≡ take k (lineTerms g) ++ ((residue p h (coefficientAt g k), row n (monomialAt g k)) ∷ [])
@@ -91,6 +78,7 @@ module _ (p : ℕ) (h : 1 < p) (n : ℕ) where
     pub line-terms-all : (k : ℕ) → g .terms ≤ k → take k (lineTerms g) ≡ lineTerms g
     line-terms-all k l = take-all k (lineTerms g) (omega (arith, line-terms-length))
 
-pub line-degree : (p n : ℕ) (g : Generator) → SoundLine p n g → (k : ℕ) → k < g .terms → degree n (row n (monomialAt g k)) ≤ degree n (row n (monomialAt g 0))
+pub line-degree : (p n : ℕ) (g : Generator) → SoundLine p n g → (k : ℕ) → k < g .terms
+    → degree n (row n (monomialAt g k)) ≤ degree n (row n (monomialAt g 0))
 line-degree p n g s zero l = omega arith
 line-degree p n g s (suc k) l = omega (arith, line-degree p n g s k (omega arith), grevlex-degree n _ _ (s .falling k l))

@@ -4,14 +4,13 @@
 --   place-sum-small         the next sum is at most the largest degree
 --   place-sum-bound         the next place is at most twice the number of places
 --   place-sum-turn          one turn
---   place-fits              a place is below 82,251
+--   place-fits              a place is one of them
 --   place-sum-stop          after the last turn
 use mathlib.Core.Path.{_≡_, refl, _∙_, ap}
-use Prim.Native.Nat.{ℕ, suc, _+_, _≤_, _<_}
+use Prim.Native.Nat.{ℕ, suc, _+_, _*_, _≤_, _<_}
 use native.Mathlib.Omega.{arith}
-use Rattle.monomial.specs.Sizes.{most-variables}
-use Rattle.monomial.specs.Rows.{Row, exponent, degree}
-use Rattle.division.specs.GrevlexPlace.{monomialsBelow, prefixSum, placeOfFirst, place, most-degree}
+use Rattle.monomial.specs.Rows.{Row, exponent}
+use Rattle.division.specs.GrevlexPlace.{monomialsBelow, prefixSum, placeOfFirst, place, most-degree, space, HasPlace}
 use Rattle.division.proofs.Binomials.{below-space}
 use Rattle.division.proofs.GrevlexPlaces.{prefix-degree, prefix-more, place-more, first-bound, place-bound}
 
@@ -25,18 +24,19 @@ module _ (n : ℕ) (a : Row n) where
   unfolding placeOfFirst
   place-sum-start = record { within = omega arith; the-sum = refl; the-place = refl }
 
-  module _ (few : n ≤ most-variables) (low : degree n a ≤ most-degree) where
-    pub place-fits : place n a < 82251
-    place-fits = omega (arith, place-bound n most-degree a low, below-space n (suc most-degree) few (omega arith))
+  module _ (has : HasPlace n a) where
+    pub place-fits : place n a < space
+    place-fits = omega (arith, place-bound n most-degree a (has .low), below-space n (suc most-degree) (has .variables) (omega arith))
 
     module _ (i sum at : ℕ) (s : PlaceSum n a i sum at) (h : i < n) where
       pub place-sum-small : sum + exponent n a i ≤ most-degree
       place-sum-small = omega (arith, prefix-degree n a (i + 1) (omega arith), prefix-more n a i)
 
-      pub place-sum-bound : (v x t : ℕ) → t ≡ sum + x → x ≡ exponent n a i → v ≡ monomialsBelow (i + 1) t → at + v ≤ 164502
+      pub place-sum-bound : (v x t : ℕ) → t ≡ sum + x → x ≡ exponent n a i → v ≡ monomialsBelow (i + 1) t → at + v ≤ 2 * space
       place-sum-bound v x t f d e =
           let q : t ≤ suc most-degree = omega (arith, place-sum-small) in
-          omega (arith, below-space (i + 1) t (omega arith) q, first-bound n i most-degree a (omega (arith, prefix-degree n a i (omega arith))), below-space i (suc most-degree) (omega arith) (omega arith))
+          let first = first-bound n i most-degree a (omega (arith, prefix-degree n a i (omega arith))) in
+          omega (arith, first, below-space (i + 1) t (omega arith) q, below-space i (suc most-degree) (omega arith) (omega arith))
 
       pub place-sum-turn : (v x t : ℕ) → t ≡ sum + x → x ≡ exponent n a i → v ≡ monomialsBelow (i + 1) t → PlaceSum n a (i + 1) t (at + v)
       place-sum-turn v x t f d e = record { within = omega arith; the-sum = q; the-place = omega (arith, place-more n a i, e, ap (monomialsBelow (i + 1)) q) }

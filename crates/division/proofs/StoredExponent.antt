@@ -16,4 +16,5 @@ module _ (n : ℕ) (l : List Exponent) (i : ℕ) (x : Exponent) where
   stored-here h g = exponent-row n i (set l i x) h ∙ ap (λ (y : Exponent). y .0) (getD-set-same l i x (record { 0 = 0 }) g)
 
   pub stored-elsewhere : (j : ℕ) → j < n → ¬ (j ≡ i) → exponent n (rowOf n (set l i x)) j ≡ exponent n (rowOf n l) j
-  stored-elsewhere j h d = exponent-row n j (set l i x) h ∙ ap (λ (y : Exponent). y .0) (getD-set-other l i j x (record { 0 = 0 }) d) ∙ sym (exponent-row n j l h)
+  stored-elsewhere j h d = exponent-row n j (set l i x) h ∙ ap (λ (y : Exponent). y .0) (getD-set-other l i j x (record { 0 = 0 }) d)
+      ∙ sym (exponent-row n j l h)

@@ -8,27 +8,28 @@ use mathlib.Core.Bool.{true}
 use mathlib.Core.List.{List}
 use Prim.Native.Nat.{ℕ, _*_, _<_}
 use native.Mathlib.Omega.{arith}
-use Rattle.monomial.specs.Rows.{Row, lcm, divides}
+use Rattle.monomial.specs.Rows.{Row}
+use Rattle.monomial.specs.Quotients.{lcm, divides}
 use Rattle.monomial.specs.Represented.{row, monomial}
 use Rattle.monomial.specs.declared.Monomial.{Monomial}
 use Rattle.monomial.proofs.Places.{row-monomial}
-use Rattle.tabtext.specs.Sizes.{most-terms, most-lines}
-use Rattle.tabtext.specs.declared.print.Generator.{Generator}
-use Rattle.store.specs.Stored.{monomialIn, lineIn}
-use Rattle.basis.specs.Held.{Basis, held}
-use Rattle.basis.specs.declared.Shape.{Shape}
-use Rattle.reduction.specs.Sound.{monomialAt, generatorAt, SoundLine, Sound}
-use Rattle.reduction.proofs.ArrayRows.{row-at}
-use Rattle.reduction.proofs.LineLeads.{firstRead}
-use Rattle.reduction.proofs.HeldBasis.{held-line, held-first}
-use Rattle.division.specs.CoefficientArray.{Adds}
+use Rattle.lines.specs.Sizes.{most-terms, most-lines}
+use Rattle.lines.specs.Stored.{monomialIn, lineIn}
+use Rattle.lines.specs.Bases.{StoredBasis, basisIn}
+use Rattle.lines.specs.declared.line.Generator.{Generator}
+use Rattle.lines.specs.declared.Shape.{Shape}
+use Rattle.staircase.specs.Sound.{monomialAt, generatorAt, SoundLine, Sound}
+use Rattle.staircase.proofs.ArrayRows.{row-at}
+use Rattle.staircase.proofs.LineLeads.{firstRead}
+use Rattle.staircase.proofs.StoredBasis.{held-line, held-first}
+use Rattle.division.specs.CoefficientArray.{AddsPolynomial}
 use Rattle.division.specs.Clearing.{leadAt, multipleOf, lineMultiple}
 use Rattle.division.specs.PairRemainders.{leadsLcm}
 
 module _ (s : Shape) (ts cs es : List ℕ) where
   -- The basis.
-  abbrev b : Basis
-  b = held s ts cs es
+  abbrev b : StoredBasis
+  b = basisIn s ts cs es
 
   module _ (sound : Sound b) (k : ℕ) (l : k < s .lines) {g : Generator} (e : g ≡ lineIn ts cs es k) where
     line-read : generatorAt b k ≡ g
@@ -40,8 +41,9 @@ module _ (s : Shape) (ts cs es : List ℕ) where
     pub divides-read : (m : Row (s .n)) → divides (s .n) (leadAt b k) m ≡ true → divides (s .n) (row (s .n) (monomialAt g 0)) m ≡ true
     divides-read m = subst (λ f. divides (s .n) (row (s .n) (monomialAt f 0)) m ≡ true) line-read
 
-    pub adds-read : {w w′ : List ℕ} (c : ℕ) (m : Row (s .n)) → Adds (s .p) (s .n) w w′ (multipleOf (s .p) (s .n) g c m) → Adds (s .p) (s .n) w w′ (lineMultiple b k c m)
-    adds-read {w} {w′} c m = subst (λ f. Adds (s .p) (s .n) w w′ (multipleOf (s .p) (s .n) f c m)) (sym line-read)
+    pub adds-read : {w w′ : List ℕ} (c : ℕ) (m : Row (s .n)) → AddsPolynomial (s .p) (s .n) w w′ (multipleOf (s .p) (s .n) g c m)
+        → AddsPolynomial (s .p) (s .n) w w′ (lineMultiple b k c m)
+    adds-read {w} {w′} c m = subst (λ f. AddsPolynomial (s .p) (s .n) w w′ (multipleOf (s .p) (s .n) f c m)) (sym line-read)
 
   lead-held : (k : ℕ) → k < most-lines → {f : Monomial} → f ≡ monomialIn es (k * most-terms) → row (s .n) f ≡ leadAt b k
   unfolding firstRead

@@ -1,4 +1,5 @@
--- The definitions of the crate `division`:
+-- The definitions of the crate `division`.
+-- Inner contracts:
 --   GrevlexPlace       the place of a monomial in grevlex order
 --   CoefficientArray   polynomials as arrays of coefficients by places
 --   Clearing           one step of the division, and all of them

@@ -1,14 +1,14 @@
 // The place of a monomial in grevlex order, from 0, and the monomial at the place before.
 ghost use mathlib.Core.Path.{_≡_};
-ghost use Prim.Native.Nat.{ℕ, suc, _≤_, _<_};
-ghost use Rattle.monomial.specs.Sizes.{«most-variables», «most-entry»};
-ghost use Rattle.monomial.specs.Rows.{exponent, degree};
-ghost use Rattle.monomial.specs.Represented.{row};
-ghost use Rattle.division.specs.GrevlexPlace.{monomialsBelow, place, «most-degree», space};
+ghost use Prim.Native.Nat.{suc, _≤_, _<_};
+ghost use Rattle.monomial.specs.Sizes.{«most-variables»};
+ghost use Rattle.monomial.specs.Represented.{row, «most-entry»};
+ghost use Rattle.division.specs.GrevlexPlace.{monomialsBelow, place, «most-degree», space, HasPlace, PlaceIs, ExponentIs, ExponentPut};
+use lines::sizes::MAX_STANDARD;
 use monomial::Exponent;
 use monomial::MAX_VARIABLES;
 use monomial::Monomial;
-use tabtext::sizes::MAX_STANDARD;
+use monomial::variable::first_variable;
 
 // The largest degree of a monomial, which the definitions have as most-degree.
 const MAX_DEGREE: usize = MAX_VARIABLES + (MAX_STANDARD - 1);
@@ -23,7 +23,7 @@ pub fn max_space() -> usize
     SPACE
 }
 
-fn number(x: Exponent) -> usize
+fn entry(x: Exponent) -> usize
     ensures { λ r. ⌜ (r ≡ x .0) × (r ≤ most-entry) ⌝ }
 {
     x.0 as usize
@@ -32,9 +32,9 @@ fn number(x: Exponent) -> usize
 // The exponent of variable i, counted from 0.
 fn exponent(m: Monomial, i: usize) -> usize
     requires { ⌜ i < most-variables ⌝ }
-    ensures { λ r. ⌜ ((n : ℕ) → i < n → r ≡ exponent n (row n m) i) × (r ≤ most-entry) ⌝ }
+    ensures { λ r. ⌜ ExponentIs m i r ⌝ }
 {
-    number(m.e[i])
+    entry(m.e[i])
 }
 
 // C(d + k - 1, k), each from the one before.
@@ -53,8 +53,8 @@ fn monomials_below(k: usize, d: usize) -> usize
 
 // The sum over the first i variables, for each i from 1 to n, of C(s + i - 1, i) for the sum s of their exponents.
 pub fn place(m: Monomial, n: usize) -> usize
-    requires { ⌜ (n ≤ most-variables) × (degree n (row n m) ≤ most-degree) ⌝ }
-    ensures { λ r. ⌜ (r ≡ place n (row n m)) × (r < space) ⌝ }
+    requires { ⌜ HasPlace n (row n m) ⌝ }
+    ensures { λ r. ⌜ PlaceIs n (row n m) r ⌝ }
 {
     let mut at: usize = 0;
     let mut sum: usize = 0;
@@ -67,27 +67,10 @@ pub fn place(m: Monomial, n: usize) -> usize
     at
 }
 
-// The first variable whose exponent is not 0; n if there is none.
-fn first_variable(m: Monomial, n: usize) -> usize
-    requires { ⌜ n ≤ most-variables ⌝ }
-    ensures before { λ r. ⌜ ((j : ℕ) → j < r → exponent n (row n m) j ≡ 0) ⌝ }
-    ensures found { λ r. ⌜ (r < n → 0 < exponent n (row n m) r) × (r ≤ n) ⌝ }
-{
-    let mut i: usize = 0;
-    while i < n {
-        if exponent(m, i) != 0 {
-            return i;
-        }
-        i += 1;
-    }
-    i
-}
-
 // m with the exponent x of variable i.
 fn with_exponent(mut m: Monomial, i: usize, x: usize) -> Monomial
     requires { ⌜ (i < most-variables) × (x ≤ most-entry) ⌝ }
-    ensures here { λ r. ⌜ ((n : ℕ) → i < n → exponent n (row n r) i ≡ x) ⌝ }
-    ensures elsewhere { λ r. ⌜ ((n j : ℕ) → j < n → ¬ (j ≡ i) → exponent n (row n r) j ≡ exponent n (row n m) j) ⌝ }
+    ensures { λ r. ⌜ ExponentPut m i x r ⌝ }
 {
     m.e[i] = Exponent(x as u8);
     m
@@ -95,7 +78,7 @@ fn with_exponent(mut m: Monomial, i: usize, x: usize) -> Monomial
 
 // The lowest sum of first exponents that is not 0 falls by 1, and all below it take its new value.
 pub fn before(m: Monomial, n: usize) -> Monomial
-    requires { ⌜ (n ≤ most-variables) × (degree n (row n m) ≤ most-degree) × (0 < place n (row n m)) ⌝ }
+    requires { ⌜ HasPlace n (row n m) × (0 < place n (row n m)) ⌝ }
     ensures { λ r. ⌜ suc (place n (row n r)) ≡ place n (row n m) ⌝ }
 {
     let i = first_variable(m, n);

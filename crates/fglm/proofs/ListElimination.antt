@@ -1,26 +1,29 @@
 -- Row elimination over lists of residues, as it computes.
---   less p h x c y                x - c·y
---   scaled p h c x k              c·x, as a row with the pivot k
---   cleared p h q r               the row r less the multiple of q that makes it zero at q's pivot
---   inserted p h q rs             the rows cleared at q's pivot, and then q
---   chosen p h reciprocal rs x o  the answer for what is left, x, with its first place o
---   reduced-none, reduced-more    what the rows leave, one row after the other
---   eliminated-first              the answer, by the first place of what is left
---   eliminated-same               what the combinations are of does not enter the answer
+--   less p h x c y                             x - c·y
+--   scaled p h c x k                           c·x, as a row with the pivot k
+--   cleared p h q r                            the row r less the multiple of q that makes it zero at q's pivot
+--   inserted p h q rs                          the rows cleared at q's pivot, and then q
+--   chosen p h reciprocal rs x o               the answer for what is left, x, with its first place o
+--   eliminated p h field L reciprocal rs k v   the answer of row elimination to v, after k vectors
+--   reduced-none, reduced-more                 what the rows leave, one row after the other
+--   eliminated-first                           the answer, by the first place of what is left
+--   eliminated-same                            what the combinations are of does not enter the answer
 use mathlib.Core.Path.{_≡_, refl, sym, _∙_, ap}
 use mathlib.Core.List.{List, [], _∷_, _++_, map}
 use mathlib.Core.Logic.{_⊎_, inl, inr}
 use mathlib.Core.Option.{Option, none, some}
 use Prim.Native.Nat.{ℕ, _<_}
 use lib.ListN.{getD}
-use Rattle.residue.specs.Field.{Field, ZMod, modulo}
-use Rattle.tabtext.specs.Sizes.{most-standard}
-use Rattle.groebner.proofs.CoefficientElimination.{coefficient-vectors, array-combinations}
+use Rattle.residue.specs.Field.{ZMod, modulo}
+use Rattle.residue.specs.RingLaws.{Field}
 use Rattle.groebner.specs.CoefficientRows.{subtract-multiple, multiply, unit-array}
-use Rattle.groebner.proofs.CoefficientRows.{first-nonzero, First, first-found, first-unique}
+use Rattle.groebner.proofs.CoefficientElimination.{coefficient-vectors, array-combinations}
+use Rattle.groebner.proofs.CoefficientRows.{first-nonzero, FirstNonzero, first-found, first-unique}
+use Rattle.groebner.proofs.Coordinates.{sequences}
 use Rattle.groebner.proofs.RowElimination.{reduce-row, insert-row, pivot-step, add-vector}
+use Rattle.lines.specs.Sizes.{most-standard}
 use Rattle.fglm.specs.RowState.{AugmentedRow, ReducedRow, State}
-use Rattle.fglm.specs.Elimination.{reduced, eliminated}
+use Rattle.fglm.specs.Elimination.{reduced}
 
 module _ (p : ℕ) (h : 1 < p) where
   -- x - c·y
@@ -42,6 +45,12 @@ module _ (p : ℕ) (h : 1 < p) where
   chosen reciprocal rs x (some k) = inr (inserted (scaled (reciprocal (getD (x .vector) k (modulo p h .zero))) x k) rs)
 
   module _ (field : Field (modulo p h)) {M : Type 0} (L : M → ℕ → ZMod p) where
+    -- The answer to v after k vectors.
+    unfoldable pub eliminated : (ZMod p → ZMod p) → State p → ℕ → List (ZMod p) → List (ZMod p) ⊎ State p
+    unfolding coefficient-vectors array-combinations add-vector
+    eliminated reciprocal rs k v =
+        add-vector (coefficient-vectors (field .ring) most-standard (λ c. field .decide c (modulo p h .zero))) (array-combinations (sequences (field .ring)) L most-standard) reciprocal rs k v
+
     pub reduced-none : (x : AugmentedRow p) (v : List (ZMod p)) → reduced p h field L [] x v ≡ x
     unfolding reduced reduce-row
     reduced-none x v = refl
@@ -59,7 +68,7 @@ module _ (p : ℕ) (h : 1 < p) where
       abbrev left : AugmentedRow p
       left = reduced p h field L rs (record { vector = v; combination = unit-array (modulo p h) most-standard k }) v
 
-      eliminated-chosen : eliminated p h field L reciprocal rs k v ≡ chosen reciprocal rs left (first-nonzero (modulo p h) zero? (left .vector))
+      eliminated-chosen : eliminated reciprocal rs k v ≡ chosen reciprocal rs left (first-nonzero (modulo p h) zero? (left .vector))
       unfolding eliminated add-vector pivot-step insert-row reduced coefficient-vectors array-combinations
       eliminated-chosen = go (first-nonzero (modulo p h) zero? (left .vector))
         where
@@ -70,7 +79,8 @@ module _ (p : ℕ) (h : 1 < p) where
           go none = refl
           go (some i) = refl
 
-      pub eliminated-first : (x : AugmentedRow p) → x ≡ left → (o : Option ℕ) → First (modulo p h) (x .vector) o → eliminated p h field L reciprocal rs k v ≡ chosen reciprocal rs x o
+      pub eliminated-first : (x : AugmentedRow p) → x ≡ left → (o : Option ℕ) → FirstNonzero (modulo p h) (x .vector) o
+          → eliminated reciprocal rs k v ≡ chosen reciprocal rs x o
       eliminated-first x e o f = eliminated-chosen ∙ ap (λ y. chosen reciprocal rs y (first-nonzero (modulo p h) zero? (y .vector))) (sym e)
           ∙ ap (chosen reciprocal rs x) (first-unique (modulo p h) (x .vector) (first-nonzero (modulo p h) zero? (x .vector)) o (first-found (modulo p h) zero? (x .vector)) f)
 
@@ -79,6 +89,8 @@ module _ (p : ℕ) (h : 1 < p) where
     reduced-same [] x v = reduced-none field L x v ∙ sym (reduced-none field K x v)
     reduced-same (r ∷ rs) x v = reduced-more field L r rs x v ∙ reduced-same rs _ v ∙ sym (reduced-more field K r rs x v)
 
-    pub eliminated-same : (reciprocal : ZMod p → ZMod p) (rs : State p) (k : ℕ) (v : List (ZMod p)) → eliminated p h field L reciprocal rs k v ≡ eliminated p h field K reciprocal rs k v
+    pub eliminated-same : (reciprocal : ZMod p → ZMod p) (rs : State p) (k : ℕ) (v : List (ZMod p))
+        → eliminated field L reciprocal rs k v ≡ eliminated field K reciprocal rs k v
     eliminated-same reciprocal rs k v = eliminated-chosen field L reciprocal rs k v
-        ∙ ap (λ x. chosen reciprocal rs x (first-nonzero (modulo p h) (zero? field L) (x .vector))) (reduced-same rs _ v) ∙ sym (eliminated-chosen field K reciprocal rs k v)
+        ∙ ap (λ x. chosen reciprocal rs x (first-nonzero (modulo p h) (zero? field L) (x .vector))) (reduced-same rs _ v)
+        ∙ sym (eliminated-chosen field K reciprocal rs k v)

@@ -1,6 +1,5 @@
--- The loop of `remainder`: what is left of v, less one row a turn.
+-- The loop of `residual`: what is left of v, less one row a turn.
 --   Reducing p s v x₀ x i   x is x₀ less the first i rows times v's entries at their pivots
---   rows-from, no-rows-from the rows from the i-th on
 --   reducing-start          before the first turn
 --   reducing-turn           a turn subtracts row i
 --   reducing-skip           or passes it over where the entry is zero
@@ -13,70 +12,69 @@ use native.Mathlib.Numerals.{add-one}
 use native.Mathlib.Omega.{arith}
 use lib.ListN.{length, take, drop, length-map, List·getD-map}
 use lib.Seq.{drop-cons, drop-length, getD-take, length-take-le}
-use Rattle.residue.specs.Field.{Field, modulo}
-use Rattle.reduction.specs.Generators.{residue}
-use Rattle.multiplication.specs.Rows.{coordinate, Below}
-use Rattle.multiplication.specs.declared.coordinates.Coordinates.{Coordinates}
-use Rattle.fglm.specs.Vectors.{vector, Represents, unitVector}
-use Rattle.fglm.specs.RowState.{remainder, reducedRow, noRow, rowAt, state, SoundRow}
+use Rattle.residue.specs.Field.{modulo, residue}
+use Rattle.residue.specs.RingLaws.{Field}
+use Rattle.coordinates.specs.Vectors.{coordinate, vector, Represents, unitVector}
+use Rattle.coordinates.specs.declared.Coordinates.{Coordinates}
+use Rattle.coordinates.proofs.VectorEntries.{vector-entry}
+use Rattle.fglm.specs.RowState.{residualOf, reducedRow, noRow, rowAt, stateOf, SoundResidual, SoundRow}
 use Rattle.fglm.specs.Elimination.{reduced, nothing, LeftOf}
 use Rattle.fglm.specs.Steps.{LessRow}
-use Rattle.fglm.specs.declared.elimination.Remainder.{Remainder}
+use Rattle.fglm.specs.declared.elimination.Residual.{Residual}
 use Rattle.fglm.specs.declared.elimination.Rows.{Rows}
-use Rattle.fglm.proofs.VectorEntries.{vector-entry}
-use Rattle.fglm.proofs.RowSteps.{WholeRemainder, less-none}
+use Rattle.fglm.proofs.RowSteps.{sound-residual, less-none}
 use Rattle.fglm.proofs.ListElimination.{less, reduced-none, reduced-more}
 
 module _ (p : ℕ) (h : 1 < p) where
   -- The rows from the i-th on.
-  pub rows-from : (s : Rows) (i : ℕ) → i < s .used → s .used ≤ length (s .rows) → drop i (state p h s) ≡ reducedRow p h (rowAt s i) ∷ drop (i + 1) (state p h s)
-  unfolding state
-  rows-from s i l m = rw add-one (drop-cons (state p h s) i (reducedRow p h noRow) (omega (arith, length-map (take (s .used) (s .rows)) (reducedRow p h), length-take-le (s .used) (s .rows) m))
-      ∙ ap (_∷ drop (suc i) (state p h s)) (List·getD-map (reducedRow p h) (take (s .used) (s .rows)) i noRow ∙ ap (reducedRow p h) (getD-take (s .used) (s .rows) i noRow l)))
+  state-from : (s : Rows) (i : ℕ) → i < s .used → s .used ≤ length (s .rows) → drop i (stateOf p h s) ≡ reducedRow p h (rowAt s i) ∷ drop (i + 1) (stateOf p h s)
+  unfolding stateOf
+  state-from s i l m = rw add-one (drop-cons (stateOf p h s) i (reducedRow p h noRow) (omega (arith, length-map (take (s .used) (s .rows)) (reducedRow p h), length-take-le (s .used) (s .rows) m))
+      ∙ ap (_∷ drop (suc i) (stateOf p h s)) (List·getD-map (reducedRow p h) (take (s .used) (s .rows)) i noRow ∙ ap (reducedRow p h) (getD-take (s .used) (s .rows) i noRow l)))
 
-  pub no-rows-from : (s : Rows) (i : ℕ) → i ≡ s .used → s .used ≤ length (s .rows) → drop i (state p h s) ≡ []
-  unfolding state
-  no-rows-from s i e m = ap (λ n. drop n (state p h s)) (e ∙ sym (length-map (take (s .used) (s .rows)) (reducedRow p h) ∙ length-take-le (s .used) (s .rows) m)) ∙ drop-length (state p h s)
+  no-rows-from : (s : Rows) (i : ℕ) → i ≡ s .used → s .used ≤ length (s .rows) → drop i (stateOf p h s) ≡ []
+  unfolding stateOf
+  no-rows-from s i e m = ap (λ n. drop n (stateOf p h s)) (e ∙ sym (length-map (take (s .used) (s .rows)) (reducedRow p h) ∙ length-take-le (s .used) (s .rows) m)) ∙ drop-length (stateOf p h s)
 
-pub record Reducing (p : ℕ) (s : Rows) (v : Coordinates) (x₀ x : Remainder) (i : ℕ) : Type 0 where
+pub record Reducing (p : ℕ) (s : Rows) (v : Coordinates) (x₀ x : Residual) (i : ℕ) : Type 0 where
   pub within : i ≤ s .used
-  pub whole : WholeRemainder x
-  pub row-below : Below p (x .row)
-  pub combination-below : Below p (x .combination)
-  pub left : (h : 1 < p) (field : Field (modulo p h)) → reduced p h field (nothing p) (drop i (state p h s)) (remainder p h x) (vector p h v) ≡ reduced p h field (nothing p) (state p h s) (remainder p h x₀) (vector p h v)
+  pub sound : SoundResidual p x
+  pub left : (h : 1 < p) (field : Field (modulo p h))
+      → reduced p h field (nothing p) (drop i (stateOf p h s)) (residualOf p h x) (vector p h v) ≡ reduced p h field (nothing p) (stateOf p h s) (residualOf p h x₀) (vector p h v)
 
-pub reducing-is : {p : ℕ} {s : Rows} {v : Coordinates} {x₀ x y : Remainder} {i : ℕ} → y ≡ x → Reducing p s v x₀ x i → Reducing p s v x₀ y i
+pub reducing-is : {p : ℕ} {s : Rows} {v : Coordinates} {x₀ x y : Residual} {i : ℕ} → y ≡ x → Reducing p s v x₀ x i → Reducing p s v x₀ y i
 reducing-is {p} {s} {v} {x₀} {i = i} e r = subst (λ z. Reducing p s v x₀ z i) (sym e) r
 
-module _ (p : ℕ) (s : Rows) (v : Coordinates) (x₀ : Remainder) where
-  pub reducing-start : WholeRemainder x₀ → Below p (x₀ .row) → Below p (x₀ .combination) → Reducing p s v x₀ x₀ 0
-  reducing-start w a b = record { within = omega arith; whole = w; row-below = a; combination-below = b; left = λ h field. refl }
+module _ {p : ℕ} {s : Rows} {v : Coordinates} {x₀ : Residual} where
+  pub reducing-start : SoundResidual p x₀ → Reducing p s v x₀ x₀ 0
+  reducing-start sound = record { within = omega arith; sound = sound; left = λ h field. refl }
 
-  pub reducing-turn : (x y : Remainder) (i c : ℕ) → Reducing p s v x₀ x i → i < s .used → s .used ≤ length (s .rows) → c ≡ coordinate v (rowAt s i .pivot) → LessRow p x c (rowAt s i) y → Reducing p s v x₀ y (i + 1)
-  reducing-turn x y i c r l m e q = record {
+  pub reducing-turn : {x y : Residual} {i c : ℕ} → Reducing p s v x₀ x i → i < s .used → s .used ≤ length (s .rows)
+      → c ≡ coordinate v (rowAt s i .pivot) → LessRow p x c (rowAt s i) y → Reducing p s v x₀ y (i + 1)
+  reducing-turn {x} {y} {i} {c} r l m e q = record {
     within = omega arith;
-    whole = (q .row .whole, q .combination .whole);
-    row-below = q .row .below;
-    combination-below = q .combination .below;
+    sound = sound-residual (q .row) (q .combination);
     left = λ h field.
-        sym (ap (λ rs. reduced p h field (nothing p) rs (remainder p h x) (vector p h v)) (rows-from p h s i l m)
+        sym (ap (λ rs. reduced p h field (nothing p) rs (residualOf p h x) (vector p h v)) (state-from p h s i l m)
         ∙ reduced-more p h field (nothing p) _ _ _ _
-        ∙ ap (λ z. reduced p h field (nothing p) (drop (i + 1) (state p h s)) z (vector p h v)) (ap (λ z. less p h (remainder p h x) z (reducedRow p h (rowAt s i) .row)) (vector-entry p h v _ ∙ ap (residue p h) (sym e)) ∙ sym (is h)))
+        ∙ ap (λ z. reduced p h field (nothing p) (drop (i + 1) (stateOf p h s)) z (vector p h v))
+        (ap (λ z. less p h (residualOf p h x) z (reducedRow p h (rowAt s i) .row)) (vector-entry p h v _ ∙ ap (residue p h) (sym e)) ∙ sym (is h)))
         ∙ r .left h field;
   }
     where
-      is : (h : 1 < p) → remainder p h y ≡ less p h (remainder p h x) (residue p h c) (reducedRow p h (rowAt s i) .row)
+      is : (h : 1 < p) → residualOf p h y ≡ less p h (residualOf p h x) (residue p h c) (reducedRow p h (rowAt s i) .row)
       is h = λ j. record { vector = q .row .residues h j; combination = q .combination .residues h j }
 
-  pub reducing-skip : (x : Remainder) (i c : ℕ) → Reducing p s v x₀ x i → i < s .used → s .used ≤ length (s .rows) → c ≡ coordinate v (rowAt s i .pivot) → 1 < p → SoundRow p (rowAt s i) → c ≡ 0 → Reducing p s v x₀ x (i + 1)
-  reducing-skip x i c r l m e h u z = reducing-turn x x i c r l m e (less-none p x c (rowAt s i) h (r .whole) (r .row-below) (r .combination-below) u z)
+  pub reducing-skip : {x : Residual} {i c : ℕ} → Reducing p s v x₀ x i → i < s .used → s .used ≤ length (s .rows)
+      → c ≡ coordinate v (rowAt s i .pivot) → 1 < p → SoundRow p (rowAt s i) → c ≡ 0 → Reducing p s v x₀ x (i + 1)
+  reducing-skip r l m e h u z = reducing-turn r l m e (less-none h (r .sound) u z)
 
-  pub reducing-stop : (x : Remainder) (i : ℕ) → Reducing p s v x₀ x i → s .used ≤ i → s .used ≤ length (s .rows) → x₀ .row ≡ v → Represents p (x₀ .combination) (unitVector p (s .used)) → LeftOf p s v x
-  reducing-stop x i r l m e u = record {
-    row-below = r .row-below;
-    combination-below = r .combination-below;
+  pub reducing-stop : {x : Residual} {i : ℕ} → Reducing p s v x₀ x i → s .used ≤ i → s .used ≤ length (s .rows) → x₀ .row ≡ v
+      → Represents p (x₀ .combination) (unitVector p (s .used)) → LeftOf p s v x
+  reducing-stop {x} {i} r l m e u = record {
+    sound = r .sound;
     left = λ h field.
-        sym (ap (λ rs. reduced p h field (nothing p) rs (remainder p h x) (vector p h v)) (no-rows-from p h s i (omega (arith, r .within)) m) ∙ reduced-none p h field (nothing p) _ _)
+        sym (ap (λ rs. reduced p h field (nothing p) rs (residualOf p h x) (vector p h v)) (no-rows-from p h s i (omega (arith, r .within)) m) ∙ reduced-none p h field (nothing p) _ _)
         ∙ r .left h field
-        ∙ ap (λ z. reduced p h field (nothing p) (state p h s) z (vector p h v)) (λ j. record { vector = vector p h (e j); combination = u .residues h j });
+        ∙ ap (λ z. reduced p h field (nothing p) (stateOf p h s) z (vector p h v)) (λ j. record { vector = vector p h (e j); combination = u .residues h j });
   }

@@ -1,21 +1,22 @@
--- The rows that the code holds, as lists of residues.
+-- Inner contracts. The rows that the code holds, as lists of residues.
 --   AugmentedRow p            a vector with its combination
 --   ReducedRow p, State p     such a row with its pivot, and a list of such rows
---   remainder p h x           what is left of a vector, with its combination
+--   residualOf p h x          what is left of a vector, with its combination
 --   reducedRow p h r          a row of the code
 --   noRow, rowAt s k          row k; noRow stands past the end
---   state p h s               the rows of the code that are used
---   SoundRow p r, Sound p s   the vectors are whole, the entries below p and the pivots below 32; at most 32 rows are used
+--   stateOf p h s             the rows of the code that are used
+--   SoundResidual p x         the vectors of x are whole, and their entries below p
+--   SoundRow p r              those of the row r are so, and its pivot is one of their places
+--   SoundRows p s             each row that is used is so, and there is room for them
 use mathlib.Core.List.{List, [], map}
 use Prim.Native.Nat.{ℕ, _<_, _≤_}
 use lib.ListN.{getD, take}
 use Rattle.residue.specs.Field.{ZMod}
-use Rattle.tabtext.specs.Sizes.{most-standard}
 use Rattle.groebner.specs.CoefficientRows.{Pivoted, Augmented}
-use Rattle.multiplication.specs.Rows.{Below}
-use Rattle.fglm.specs.Vectors.{vector, Whole}
+use Rattle.lines.specs.Sizes.{most-standard}
+use Rattle.coordinates.specs.Vectors.{Below, vector, FullLength}
 use Rattle.fglm.specs.declared.elimination.Reduced.{Reduced}
-use Rattle.fglm.specs.declared.elimination.Remainder.{Remainder}
+use Rattle.fglm.specs.declared.elimination.Residual.{Residual}
 use Rattle.fglm.specs.declared.elimination.Rows.{Rows}
 
 -- A vector with its combination.
@@ -31,8 +32,8 @@ abbrev pub State : ℕ → Type 0
 State p = List (ReducedRow p)
 
 -- What is left of a vector, with its combination.
-abbrev pub remainder : (p : ℕ) → 1 < p → Remainder → AugmentedRow p
-remainder p h x = record { vector = vector p h (x .row); combination = vector p h (x .combination) }
+abbrev pub residualOf : (p : ℕ) → 1 < p → Residual → AugmentedRow p
+residualOf p h x = record { vector = vector p h (x .row); combination = vector p h (x .combination) }
 
 -- A row of the code.
 abbrev pub reducedRow : (p : ℕ) → 1 < p → Reduced → ReducedRow p
@@ -47,18 +48,22 @@ abbrev pub rowAt : Rows → ℕ → Reduced
 rowAt s k = getD (s .rows) k noRow
 
 -- The rows that are used.
-unfoldable pub state : (p : ℕ) → 1 < p → Rows → State p
-state p h s = map (reducedRow p h) (take (s .used) (s .rows))
+unfoldable pub stateOf : (p : ℕ) → 1 < p → Rows → State p
+stateOf p h s = map (reducedRow p h) (take (s .used) (s .rows))
 
--- The pivot is a place of the vectors, these are whole, and their entries are below p.
+-- The vectors are whole, and their entries are below p.
+pub record SoundResidual (p : ℕ) (x : Residual) : Type 0 where
+  pub row-whole : FullLength (x .row)
+  pub combination-whole : FullLength (x .combination)
+  pub row-below : Below p (x .row)
+  pub combination-below : Below p (x .combination)
+
+-- The vectors are so, and the pivot is one of their places.
 pub record SoundRow (p : ℕ) (r : Reduced) : Type 0 where
   pub place : r .pivot < most-standard
-  pub row-whole : Whole (r .row)
-  pub combination-whole : Whole (r .combination)
-  pub row-below : Below p (r .row)
-  pub combination-below : Below p (r .combination)
+  pub vectors : SoundResidual p (record { row = r .row; combination = r .combination })
 
 -- There is room for the rows that are used, and each is sound.
-pub record Sound (p : ℕ) (s : Rows) : Type 0 where
+pub record SoundRows (p : ℕ) (s : Rows) : Type 0 where
   pub size : s .used ≤ most-standard
   pub rows : (k : ℕ) → k < s .used → SoundRow p (rowAt s k)

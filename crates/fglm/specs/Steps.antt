@@ -1,4 +1,4 @@
--- What the steps of the elimination give.
+-- Inner contracts. What the steps of the elimination give.
 --   LessRow p x c r y          y is x less c times the row r
 --   Dependence p x c           c is the opposite of the combination of x
 --   Scaled t x k q             q is x made one at place k, with the pivot k
@@ -8,28 +8,27 @@
 use mathlib.Core.Path.{_≡_}
 use Prim.Native.Nat.{ℕ, _+_, _<_}
 use lib.ListN.{length, set}
-use Rattle.residue.specs.Modular.{negation}
+use Rattle.residue.specs.Modular.{negationMod}
 use Rattle.residue.specs.Reciprocals.{entry}
 use Rattle.residue.specs.declared.reciprocals.Reciprocals.{Reciprocals}
-use Rattle.multiplication.specs.Rows.{coordinate}
-use Rattle.multiplication.specs.declared.coordinates.Coordinates.{Coordinates}
-use Rattle.fglm.specs.Vectors.{Represents, subtracted, multiplied}
+use Rattle.coordinates.specs.Vectors.{coordinate, Represents, subtracted, multiplied}
+use Rattle.coordinates.specs.declared.Coordinates.{Coordinates}
 use Rattle.fglm.specs.RowState.{rowAt}
 use Rattle.fglm.specs.declared.elimination.Reduced.{Reduced}
-use Rattle.fglm.specs.declared.elimination.Remainder.{Remainder}
+use Rattle.fglm.specs.declared.elimination.Residual.{Residual}
 use Rattle.fglm.specs.declared.elimination.Rows.{Rows}
 
 -- y is x less c times the row r.
-pub record LessRow (p : ℕ) (x : Remainder) (c : ℕ) (r : Reduced) (y : Remainder) : Type 0 where
+pub record LessRow (p : ℕ) (x : Residual) (c : ℕ) (r : Reduced) (y : Residual) : Type 0 where
   pub row : Represents p (y .row) (subtracted p (x .row) c (r .row))
   pub combination : Represents p (y .combination) (subtracted p (x .combination) c (r .combination))
 
 -- c is the opposite of the combination of x.
-abbrev pub Dependence : (p : ℕ) → Remainder → Coordinates → Type 0
-Dependence p x c = Represents p c (multiplied p (negation p 1) (x .combination))
+abbrev pub Dependence : (p : ℕ) → Residual → Coordinates → Type 0
+Dependence p x c = Represents p c (multiplied p (negationMod p 1) (x .combination))
 
 -- q is x times the reciprocal of its entry at place k, with the pivot k.
-pub record Scaled (t : Reciprocals) (x : Remainder) (k : ℕ) (q : Reduced) : Type 0 where
+pub record Scaled (t : Reciprocals) (x : Residual) (k : ℕ) (q : Reduced) : Type 0 where
   pub pivot : q .pivot ≡ k
   pub row : Represents (t .p) (q .row) (multiplied (t .p) (entry t (coordinate (x .row) k)) (x .row))
   pub combination : Represents (t .p) (q .combination) (multiplied (t .p) (entry t (coordinate (x .row) k)) (x .combination))

@@ -1,23 +1,22 @@
 // Row elimination (document 01, "The walk"): rows in reduced echelon form, each with the combination of the added vectors that it is.
 ghost use mathlib.Core.Path.{_≡_};
-ghost use Prim.Native.Nat.{_<_, _≤_};
-ghost use Rattle.residue.specs.Prime.{«largest-modulus»};
+ghost use Prim.Native.Nat.{_<_};
+ghost use Rattle.residue.specs.Prime.{Modulus};
 ghost use Rattle.residue.specs.Reciprocals.{Serves};
-ghost use Rattle.tabtext.specs.Sizes.{«most-standard»};
-ghost use Rattle.multiplication.specs.Rows.{coordinate, Below};
-ghost use Rattle.fglm.specs.Vectors.{FirstPlace};
-ghost use Rattle.fglm.specs.RowState.{SoundRow, Sound};
+ghost use Rattle.lines.specs.Sizes.{«most-standard»};
+ghost use Rattle.coordinates.specs.Vectors.{coordinate, Below, FirstPlace};
+ghost use Rattle.fglm.specs.RowState.{SoundResidual, SoundRow, SoundRows};
 ghost use Rattle.fglm.specs.Elimination.{LeftOf};
 ghost use Rattle.fglm.specs.Steps.{LessRow, Dependence, Scaled, ClearedRow, Inserted};
-use crate::vectors::Found;
-use crate::vectors::first_nonzero;
-use crate::vectors::multiply;
-use crate::vectors::subtract_multiple;
-use crate::vectors::unit;
-use multiplication::coordinates::Coordinates;
+use coordinates::Coordinates;
+use coordinates::vectors::Found;
+use coordinates::vectors::first_nonzero;
+use coordinates::vectors::multiply;
+use coordinates::vectors::subtract_multiple;
+use coordinates::vectors::unit;
+use lines::sizes::MAX_STANDARD;
 use residue::Residue;
 use residue::reciprocals::Reciprocals;
-use tabtext::sizes::MAX_STANDARD;
 
 // A vector that is 1 at its pivot, and the combination of the added vectors that it is.
 pub struct Reduced {
@@ -33,12 +32,12 @@ pub struct Rows {
 }
 
 // What is left of a vector, and the combination of the added vectors and it that this is.
-pub struct Remainder {
+pub struct Residual {
     pub row: Coordinates,
     pub combination: Coordinates,
 }
 
-impl Remainder {
+impl Residual {
     // A pivot, if anything is left; else the vector depends on those added before.
     pub fn found(self) -> Found
         ensures { λ r. ⌜ FirstPlace (self .row) r ⌝ }
@@ -48,7 +47,7 @@ impl Remainder {
 
     // If nothing is left, the combination of the vectors added before that the vector is.
     pub fn dependence(self, p: u16) -> Coordinates
-        requires { ⌜ (1 < p) × (p ≤ largest-modulus) × Below p (self .combination) ⌝ }
+        requires { ⌜ Modulus p × SoundResidual p self ⌝ }
         ensures { λ r. ⌜ Dependence p self r ⌝ }
     {
         let minus_one = Residue::ONE.neg(p);
@@ -56,13 +55,13 @@ impl Remainder {
     }
 
     // Less c times a row.
-    fn less(self, c: Residue, r: Reduced, p: u16) -> Remainder
-        requires { ⌜ (1 < p) × (p ≤ largest-modulus) × Below p (self .row) × Below p (self .combination) × (c .0 < p) × SoundRow p r ⌝ }
+    fn less(self, c: Residue, r: Reduced, p: u16) -> Residual
+        requires { ⌜ Modulus p × SoundResidual p self × (c .0 < p) × SoundRow p r ⌝ }
         ensures { λ x. ⌜ LessRow p self (c .0) r x ⌝ }
     {
         let row = r.row;
         let combination = r.combination;
-        Remainder {
+        Residual {
             row: subtract_multiple(self.row, c, row, p),
             combination: subtract_multiple(self.combination, c, combination, p),
         }
@@ -70,7 +69,7 @@ impl Remainder {
 
     // Times the reciprocal of the entry at place k: a row with the pivot k.
     pub fn scaled(self, k: usize, reciprocals: Reciprocals) -> Reduced
-        requires { ⌜ (1 < reciprocals .p) × Serves reciprocals × (k < most-standard) × ¬ (coordinate (self .row) k ≡ 0) × Below (reciprocals .p) (self .row) × Below (reciprocals .p) (self .combination) ⌝ }
+        requires { ⌜ Modulus (reciprocals .p) × Serves reciprocals × SoundResidual (reciprocals .p) self × (k < most-standard) × ¬ (coordinate (self .row) k ≡ 0) ⌝ }
         ensures { λ q. ⌜ Scaled reciprocals self k q ⌝ }
     {
         let row = self.row;
@@ -86,13 +85,13 @@ impl Remainder {
 impl Reduced {
     // Less the multiple of q that makes it zero at q's pivot.
     fn cleared(self, q: Reduced, p: u16) -> Reduced
-        requires { ⌜ (1 < p) × (p ≤ largest-modulus) × SoundRow p self × SoundRow p q ⌝ }
+        requires { ⌜ Modulus p × SoundRow p self × SoundRow p q ⌝ }
         ensures { λ r. ⌜ ClearedRow p q self r ⌝ }
     {
         let row = self.row;
         let combination = self.combination;
         let at = q.pivot;
-        let x = Remainder { row, combination };
+        let x = Residual { row, combination };
         let y = x.less(row.c[at], q, p);
         let row = y.row;
         let combination = y.combination;
@@ -123,7 +122,7 @@ impl Rows {
 
     // Each row less the multiple of q that makes it zero at q's pivot, and then q. A row that is zero there stays as it is.
     pub fn insert(mut self, q: Reduced, p: u16) -> Rows
-        requires { ⌜ (1 < p) × (p ≤ largest-modulus) × Sound p self × SoundRow p q × (self .used < most-standard) ⌝ }
+        requires { ⌜ Modulus p × SoundRows p self × SoundRow p q × (self .used < most-standard) ⌝ }
         ensures { λ r. ⌜ Inserted p q self r ⌝ }
     {
         let at = self.used;
@@ -144,11 +143,11 @@ impl Rows {
     }
 
     // v less each row times v's entry at its pivot; a row with the entry 0 is passed over.
-    pub fn remainder(self, v: Coordinates, p: u16) -> Remainder
-        requires { ⌜ (1 < p) × (p ≤ largest-modulus) × Sound p self × Below p v ⌝ }
+    pub fn residual(self, v: Coordinates, p: u16) -> Residual
+        requires { ⌜ Modulus p × SoundRows p self × Below p v ⌝ }
         ensures { λ x. ⌜ LeftOf p self v x ⌝ }
     {
-        let mut x = Remainder {
+        let mut x = Residual {
             row: v,
             combination: unit(self.used, p),
         };

@@ -2,28 +2,28 @@
 ghost use mathlib.Core.Path.{_≡_};
 ghost use Prim.Native.Nat.{_<_};
 ghost use lib.ListN.{length, take};
-ghost use Rattle.tabtext.specs.Sizes.{«most-standard»};
+ghost use Rattle.lines.specs.Sizes.{«most-standard»};
+ghost use Rattle.lines.specs.Stored.{Arrays};
 ghost use Rattle.multiplication.specs.Rows.{«most-cells», tablesOf};
-ghost use Rattle.store.specs.Stored.{Arrays};
-ghost use Rattle.fglm.specs.Lex.{lexIn};
-ghost use Rattle.fglm.specs.Enumerable.{Convertible, Enumerated, Pushed};
+ghost use Rattle.fglm.specs.Lex.{StoredLex};
+ghost use Rattle.fglm.specs.Enumerable.{EnumerationInput, Enumerated, Pushed};
 use crate::elimination::Rows;
 use crate::image::MAX_IMAGES;
 use crate::image::image_of;
-use crate::image::put_image;
 use crate::lex_basis::LexShape;
 use crate::line::line_of;
-use crate::vectors::Found;
+use coordinates::rows::put_row;
+use coordinates::vectors::Found;
+use lines::sizes::MAX_STANDARD;
+use lines::store::put_line;
 use monomial::Monomial;
 use monomial::order::Ranking;
-use multiplication::ranks::rank;
-use reduction::irreducible::Irreducibles;
-use reduction::leads::Leads;
-use reduction::next::NextMonomial;
-use reduction::next::next;
+use monomial::rank::rank;
 use residue::reciprocals::Reciprocals;
-use store::put_line;
-use tabtext::sizes::MAX_STANDARD;
+use staircase::irreducible::Irreducibles;
+use staircase::leads::Leads;
+use staircase::next::NextMonomial;
+use staircase::next::next;
 
 // No monomials.
 fn no_monomials() -> Irreducibles
@@ -37,12 +37,12 @@ fn no_monomials() -> Irreducibles
 }
 
 // A list with one monomial more.
-fn pushed(l: Irreducibles, m: Monomial) -> Irreducibles
-    requires { ⌜ l .count < most-standard ⌝ }
-    ensures { λ r. ⌜ Pushed l m r ⌝ }
+fn pushed(list: Irreducibles, m: Monomial) -> Irreducibles
+    requires { ⌜ list .count < most-standard ⌝ }
+    ensures { λ r. ⌜ Pushed list m r ⌝ }
 {
-    let mut r = l;
-    let k = l.count;
+    let mut r = list;
+    let k = list.count;
     r.monomials[k] = m;
     r.count = k + 1;
     r
@@ -51,22 +51,22 @@ fn pushed(l: Irreducibles, m: Monomial) -> Irreducibles
 // Monomials are visited in rising lex order. One that depends on the standard monomials before it makes a line, whose multiples are passed over.
 // The lines are left in the lent arrays.
 pub fn enumerate(
-    terms: &mut [usize],
+    counts: &mut [usize],
     coefficients: &mut [u16],
     exponents: &mut [u8],
     cells: &[u16],
-    l: Irreducibles,
+    irreducibles: Irreducibles,
     ranking: Ranking,
     reciprocals: Reciprocals,
     n: usize,
 ) -> LexShape
     requires { ⌜
-        Arrays (now terms) (now coefficients) (now exponents) × (length (now cells) ≡ most-cells)
-        × Convertible reciprocals n (take n (ranking .variables)) l (tablesOf (now cells))
+        Arrays (now counts) (now coefficients) (now exponents) × (length (now cells) ≡ most-cells)
+        × EnumerationInput reciprocals n (take n (ranking .variables)) irreducibles (tablesOf (now cells))
         ⌝ }
     ensures { λ r. ⌜
-        Arrays (now (terms .exit)) (now (coefficients .exit)) (now (exponents .exit))
-        × Enumerated reciprocals n (take n (ranking .variables)) l (tablesOf (now (cells .entry))) (lexIn r (now (terms .exit)) (now (coefficients .exit)) (now (exponents .exit)))
+        StoredLex r (now (counts .exit)) (now (coefficients .exit)) (now (exponents .exit))
+        (Enumerated reciprocals n (take n (ranking .variables)) irreducibles (tablesOf (now (cells .entry))))
         ⌝ }
 {
     let mut rows = Rows::none();
@@ -80,12 +80,21 @@ pub fn enumerate(
     };
     while m.found {
         let v = m.monomial;
-        let w = image_of(cells, &images, &ranks, v, standard, l, reciprocals.p, n);
-        let x = rows.remainder(w, reciprocals.p);
+        let w = image_of(
+            cells,
+            &images,
+            &ranks,
+            v,
+            standard,
+            irreducibles,
+            reciprocals.p,
+            n,
+        );
+        let x = rows.residual(w, reciprocals.p);
         let Found::Pivot(pivot) = x.found() else {
             let g = line_of(v, x.dependence(reciprocals.p), standard, reciprocals.p, n);
             put_line(
-                &mut *terms,
+                &mut *counts,
                 &mut *coefficients,
                 &mut *exponents,
                 leads.count,
@@ -97,7 +106,7 @@ pub fn enumerate(
         };
         rows = rows.insert(x.scaled(pivot, reciprocals), reciprocals.p);
         let k = standard.count;
-        put_image(&mut images, k, w);
+        put_row(&mut images, k * MAX_STANDARD, w);
         ranks[k] = rank(v, n);
         standard = pushed(standard, v);
         m = next(leads, v, ranking, n);

@@ -1,6 +1,6 @@
 // The shape of the lex basis that the enumeration finds, and its standard monomials.
+use lines::sizes::MAX_STANDARD;
 use monomial::Monomial;
-use tabtext::sizes::MAX_STANDARD;
 
 // The number of lines, which stand in lent arrays as the crate store has them, and the first monomials of the array; both in rising order.
 pub struct LexShape {

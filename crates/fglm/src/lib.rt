@@ -1,6 +1,5 @@
 // Row elimination, and with it the enumeration of monomials in lex order.
 //
-//   vectors       sums and multiples of vectors of residues, and their first nonzero places
 //   elimination   the reduced rows of the vectors added so far
 //   enumeration   the FGLM enumeration
 //   lex_basis     the lines and the standard monomials that are found
@@ -11,4 +10,3 @@ pub mod enumeration;
 pub mod image;
 pub mod lex_basis;
 pub mod line;
-pub mod vectors;

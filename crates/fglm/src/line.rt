@@ -1,19 +1,15 @@
 // The line of a monomial that depends on standard monomials: the monomial less their combination, greatest term first.
 ghost use mathlib.Core.Path.{_≡_};
-ghost use Prim.Native.Nat.{_+_, _<_, _≤_};
-ghost use lib.ListN.{take};
-ghost use Rattle.tabtext.specs.Sizes.{«most-standard», «most-terms»};
-ghost use Rattle.tabtext.specs.Text.{Each};
-ghost use Rattle.basis.specs.Answers.{Held};
-ghost use Rattle.multiplication.specs.Rows.{Below};
-ghost use Rattle.fglm.specs.WrittenLines.{WrittenLine};
-use basis::generator::empty;
-use basis::generator::with_term;
+ghost use Prim.Native.Nat.{_+_, _<_};
+ghost use Rattle.lines.specs.Sizes.{«most-terms»};
+ghost use Rattle.fglm.specs.WrittenLines.{LineInput, WrittenLine};
+use coordinates::Coordinates;
+use lines::line::Generator;
+use lines::line::empty;
+use lines::line::with_term;
 use monomial::Monomial;
-use multiplication::coordinates::Coordinates;
-use reduction::irreducible::Irreducibles;
 use residue::Residue;
-use tabtext::print::Generator;
+use staircase::irreducible::Irreducibles;
 
 // How many terms there are with one of the coefficient c after them: no more where c is 0.
 fn terms_with(c: Residue, terms: usize) -> usize
@@ -32,7 +28,7 @@ pub fn line_of(
     p: u16,
     n: usize,
 ) -> Generator
-    requires { ⌜ (1 < p) × (standard .count ≤ most-standard) × Below p combination × Held n m × Each (Held n) (take (standard .count) (standard .monomials)) ⌝ }
+    requires { ⌜ LineInput p n m combination standard ⌝ }
     ensures { λ r. ⌜ WrittenLine p n m combination standard r ⌝ }
 {
     let mut g = with_term(empty(), Residue::ONE, m);

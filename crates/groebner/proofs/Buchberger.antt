@@ -6,19 +6,24 @@
 use mathlib.Core.Path.{_≡_, refl, sym, _∙_, ap, ap₂, subst}
 use mathlib.Core.List.{List, [], _∷_, List·Memᴰ·head, List·Memᴰ·tail, List·Memᴰ·not-nil, List·Memᴰ·cases-cons}
 use mathlib.Core.Logic.{_⊎_, inl, inr, _↔_}
-use Rattle.residue.specs.Field.{Arithmetic, Field}
-use Rattle.monomial.specs.Ordering.{Monomials, Lcm, MonomialOrder}
-use Rattle.groebner.specs.Polynomials.{_∈_, Poly, negate, minus, shift, coef}
-use Rattle.groebner.specs.Lines.{Before, Line, polynomial, Low}
+use Rattle.lists.specs.Lists.{_∈_}
+use Rattle.lists.specs.Pairs.{Before}
+use Rattle.residue.specs.Field.{Arithmetic}
+use Rattle.residue.specs.RingLaws.{Field}
+use Rattle.monomial.specs.Ordering.{Monomials, Lcm}
+use Rattle.monomial.specs.OrderLaws.{MonomialOrder}
+use Rattle.groebner.specs.Polynomials.{Poly, negate, minus, shift, coef}
+use Rattle.groebner.specs.Lines.{Line, polynomial}
 use Rattle.groebner.specs.Remainders.{Remainder, done}
-use Rattle.groebner.specs.Bases.{Groebner, SPolynomial, Buchberger}
+use Rattle.groebner.specs.Bases.{Groebner, SPolynomial}
+use Rattle.groebner.specs.Criteria.{Buchberger, Low}
 use Rattle.groebner.proofs.Modules.{self, opposite-null, opposite-opposite, swap-difference}
 use Rattle.groebner.proofs.Linear.{all-map, lin-negate}
 use Rattle.groebner.proofs.Terms.{coef-nil, coef-negate, coef-minus, nil-of-zero, clean, clean-proper, clean-same}
-use Rattle.groebner.proofs.NormalForms.{Rewriting, line, multiple, member-add, member-neg, member-same, member-shift, NF, NF-coef, NF-same}
+use Rattle.groebner.proofs.NormalForms.{Rewriting, rule, ruleMultiple, member-add, member-neg, member-same, member-shift, NF, NF-coef, NF-same}
 use Rattle.groebner.proofs.SPairs.{SPair, NF-of-member}
 use Rattle.groebner.proofs.Ground.{PolynomialRing, cancel-right}
-use Rattle.groebner.proofs.Division.{Place, rewriting, coef-lead, coef-above, remainder-NF}
+use Rattle.groebner.proofs.Division.{LinePlace, rewriting, coef-lead, coef-above, remainder-NF}
 use Rattle.groebner.proofs.Ideals.{member-line, member-of-ideal}
 use Rattle.groebner.proofs.GroebnerBases.{Trace, trace, groebner-NF, groebner-of-zero, zero-remainder}
 
@@ -52,7 +57,7 @@ module _ {F M : Type 0} {R : Arithmetic F} {𝓜 : Monomials M} {lt : M → M �
   open PolynomialRing 𝓟 using (field, monoid)
   open Field field using (ring, decide)
 
-  abbrev S : Rewriting R 𝓜 (Place G)
+  abbrev S : Rewriting R 𝓜 (LinePlace G)
   S = rewriting 𝓟 ord G low
 
   module _ (f g : Line F M) (fin : f ∈ G) (gin : g ∈ G) (m u v : M) (left : m ≡ prod u (f .0)) (right : m ≡ prod v (g .0)) where
@@ -68,8 +73,8 @@ module _ {F M : Type 0} {R : Arithmetic F} {𝓜 : Monomials M} {lt : M → M �
         go (inr (inr w)) = ap₂ (λ x y. add x (neg y)) (coef-above 𝓟 ord G low f fin u k (subst (λ z. lt z k) left w)) (coef-above 𝓟 ord G low g gin v k (subst (λ z. lt z k) right w)) ∙ ring .add-neg 𝟘
 
   -- From the division of an S-polynomial with remainder zero.
-  s-pair : AllPairs R 𝓜 lt G → (i j : Place G) → SPair S i j
-  unfolding multiple line polynomial
+  s-pair : AllPairs R 𝓜 lt G → (i j : LinePlace G) → SPair S i j
+  unfolding ruleMultiple rule polynomial
   s-pair pass i j = go (monoid .lcm (i .0 .0) (j .0 .0))
     where
       go : (m : M) × Lcm 𝓜 (i .0 .0) (j .0 .0) m → SPair S i j

@@ -6,20 +6,25 @@
 use mathlib.Core.Path.{_≡_, sym, _∙_, ap, ap₂, fun-ext}
 use mathlib.Core.List.{List, [], _∷_}
 use mathlib.Core.Logic.{_↔_}
-use Rattle.residue.specs.Field.{Arithmetic, Field}
-use Rattle.monomial.specs.Ordering.{Monomials, Divides, MonomialOrder}
-use Rattle.groebner.specs.Polynomials.{_∈_, Poly, All, all-cons, Polynomial, negate, minus, δ, coef}
-use Rattle.groebner.specs.Lines.{Line, polynomial, Reducible, Low}
-use Rattle.groebner.specs.Remainders.{Finished}
+use Rattle.lists.specs.Lists.{_∈_}
+use Rattle.residue.specs.Field.{Arithmetic}
+use Rattle.residue.specs.RingLaws.{Field}
+use Rattle.monomial.specs.Ordering.{Monomials, Divides}
+use Rattle.monomial.specs.OrderLaws.{MonomialOrder}
+use Rattle.groebner.specs.Polynomials.{Poly, All, all-cons, Polynomial, negate, minus, δ, coef}
+use Rattle.groebner.specs.Lines.{Line, polynomial, Reducible}
+use Rattle.groebner.specs.Criteria.{Low}
+use Rattle.groebner.specs.Remainders.{Normal}
 use Rattle.groebner.specs.Ideals.{IdealOf, SameIdeal}
 use Rattle.groebner.specs.Bases.{Groebner, Reduced}
-use Rattle.groebner.specs.Standard.{Standard, Conversion}
+use Rattle.groebner.specs.Standard.{Standard}
+use Rattle.groebner.specs.Conversions.{Conversion}
 use Rattle.groebner.proofs.Modules.{self, functions, equal-of-difference, cancel-difference, opposite-opposite}
-use Rattle.groebner.proofs.Linear.{all-map, all-append, all-scale, lin}
+use Rattle.groebner.proofs.Linear.{all-map, all-append, all-scale}
 use Rattle.groebner.proofs.Terms.{all-of, coef-cons, coef-negate, coef-minus, nil-of-zero}
 use Rattle.groebner.proofs.NormalForms.{Rewriting, member-add, member-neg, member-same}
 use Rattle.groebner.proofs.Ground.{PolynomialRing}
-use Rattle.groebner.proofs.Division.{Place, rewriting}
+use Rattle.groebner.proofs.Division.{LinePlace, rewriting}
 use Rattle.groebner.proofs.Ideals.{ideal-same, member-of-ideal, ideal-of-member}
 use Rattle.groebner.proofs.GroebnerBases.{groebner-NF, ideal-of-zero}
 use Rattle.groebner.proofs.Leads.{falling-unique}
@@ -34,7 +39,7 @@ module _ {F M : Type 0} {R : Arithmetic F} {𝓜 : Monomials M} {lt lt′ : M �
   open PolynomialRing 𝓟 using (field, monoid)
   open Field field using (ring, decide)
 
-  abbrev S : Rewriting R 𝓜 (Place G)
+  abbrev S : Rewriting R 𝓜 (LinePlace G)
   S = rewriting 𝓟 ord G low
 
   abbrev Std : M → Type 0
@@ -68,7 +73,7 @@ module _ {F M : Type 0} {R : Arithmetic F} {𝓜 : Monomials M} {lt lt′ : M �
     standard-of-free : (m : M) → ¬ Reducible 𝓜 H m → Std m
     standard-of-free m n = std m .1 (λ d. n (every m (λ s. std m .0 s d)))
 
-    free : (f : Poly F M) → Polynomial R f → Finished 𝓜 H f → IdealOf R 𝓜 G f → f ≡ []
+    free : (f : Poly F M) → Polynomial R f → Normal 𝓜 H f → IdealOf R 𝓜 G f → f ≡ []
     free f p fin a = nil-of-zero ring 𝓜 f p (standard-independent f (all-of f (λ c m t. standard-of-free m (fin c m t))) a)
 
     pub conversion-ideal : SameIdeal R 𝓜 G H

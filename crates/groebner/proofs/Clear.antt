@@ -3,11 +3,14 @@
 use mathlib.Core.Path.{_≡_, refl, sym, subst}
 use mathlib.Core.List.{List, [], _∷_, Memᴰ·cast}
 use mathlib.Core.Logic.{_⊎_, inl, inr, _↔_}
+use Rattle.lists.specs.Lists.{_∈_, Once}
+use Rattle.lists.specs.Pairs.{Before}
 use Rattle.residue.specs.Field.{Arithmetic}
-use Rattle.monomial.specs.Ordering.{Monomials, Divides, MonomialLaws}
-use Rattle.groebner.specs.Polynomials.{_∈_, All, all-cons}
-use Rattle.groebner.specs.Lines.{Once, Before, Line, polynomial}
-use Rattle.groebner.specs.Bases.{Clear}
+use Rattle.monomial.specs.Ordering.{Monomials, Divides}
+use Rattle.monomial.specs.OrderLaws.{MonomialLaws}
+use Rattle.groebner.specs.Polynomials.{All, all-cons}
+use Rattle.groebner.specs.Lines.{Line, polynomial}
+use Rattle.groebner.specs.Criteria.{Clear}
 use Rattle.groebner.proofs.Buchberger.{before-or, before-in}
 
 module _ {F M : Type 0} (R : Arithmetic F) {𝓜 : Monomials M} (monoid : MonomialLaws 𝓜) (G : List (Line F M)) where

@@ -4,11 +4,14 @@
 use mathlib.Core.Path.{_≡_, refl}
 use mathlib.Core.List.{List, List·Memᴰ·head, List·Memᴰ·tail}
 use mathlib.Core.Logic.{_⊎_, inl, inr}
+use Rattle.lists.specs.Lists.{_∈_}
+use Rattle.lists.specs.Pairs.{Before}
 use Rattle.residue.specs.Field.{Arithmetic}
-use Rattle.monomial.specs.Ordering.{Monomials, Divides, MonomialOrder}
-use Rattle.groebner.specs.Polynomials.{_∈_, All}
-use Rattle.groebner.specs.Lines.{Line, Before, polynomial, Reducible, Low}
-use Rattle.groebner.specs.Bases.{Clear}
+use Rattle.monomial.specs.Ordering.{Monomials, Divides}
+use Rattle.monomial.specs.OrderLaws.{MonomialOrder}
+use Rattle.groebner.specs.Polynomials.{All}
+use Rattle.groebner.specs.Lines.{Line, polynomial, Reducible}
+use Rattle.groebner.specs.Criteria.{Clear, Low}
 use Rattle.groebner.proofs.Terms.{all-at, all-of}
 use Rattle.groebner.proofs.Ground.{not-below}
 use Rattle.groebner.proofs.Buchberger.{before-or}

@@ -1,6 +1,5 @@
 -- Row elimination over lists of coefficients: they are vectors and combinations for it.
 --   coefficient-vectors ring D zero?   lists of at most D coefficients, as vectors
---   growing-combinations 𝓥 L D         combinations as lists that grow: after k monomials at most k coefficients
 --   array-combinations 𝓥 L D           combinations as arrays of D coefficients: after k monomials zero from place k on
 --   array-elimination field ..         row elimination with such vectors and arrays
 -- Of the first place that is not zero: pivot-of-first
@@ -10,19 +9,20 @@ use mathlib.Core.List.{List, [], _∷_, _++_}
 use mathlib.Core.Option.{Option, none, some}
 use Prim.Native.Nat.{ℕ, suc, _≤_, _<_}
 use native.Mathlib.Omega.{arith}
-use lib.ListN.{length, getD, List·getD-eq-default}
-use Rattle.residue.specs.Field.{Arithmetic, Ring, Field}
+use lib.ListN.{length, getD}
+use Rattle.residue.specs.Field.{Arithmetic}
+use Rattle.residue.specs.RingLaws.{Ring, Field}
+use Rattle.groebner.specs.CoefficientRows.{subtract-multiple, multiply, unit-array, polynomialOf}
 use Rattle.groebner.proofs.Modules.{Module, self, functions, null-plus, plus-left-comm, zero-act, act-null, neg-act, opposite-null, opposite-plus}
 use Rattle.groebner.proofs.Linear.{lin}
 use Rattle.groebner.proofs.Elimination.{Elimination}
 use Rattle.groebner.proofs.Echelon.{subtract}
 use Rattle.groebner.proofs.Coordinates.{sequences, entries}
 use Rattle.groebner.proofs.RowElimination.{Pivot, Vectors, Combinations, elimination}
-use Rattle.groebner.specs.CoefficientRows.{subtract-multiple, multiply, unit-array, terms}
-use Rattle.groebner.proofs.CoefficientRows.{unit-row, first-nonzero, ZeroBelow, ZeroFrom, First, length-subtract, length-multiply, length-unit-row, length-unit-array, entry-subtract, entry-multiply, entry-unit-row-own, entry-unit-row-other, entry-unit-array-own, entry-unit-array-other, zero-everywhere, zero-from-subtract, zero-from-multiply, first-found, terms-among}
+use Rattle.groebner.proofs.CoefficientRows.{first-nonzero, ZeroBelow, ZeroFrom, FirstNonzero, length-subtract, length-multiply, length-unit-array, entry-subtract, entry-multiply, entry-unit-array-own, entry-unit-array-other, zero-everywhere, zero-from-subtract, zero-from-multiply, first-found, terms-among}
 
 module _ {F : Type 0} {R : Arithmetic F} (ring : Ring R) (D : ℕ) where
-  pub pivot-of-first : (a : List F) → length a ≤ D → (o : Option ℕ) → First R a o → Pivot (entries ring) D (λ k. getD a k (R .zero)) o
+  pub pivot-of-first : (a : List F) → length a ≤ D → (o : Option ℕ) → FirstNonzero R a o → Pivot (entries ring) D (λ k. getD a k (R .zero)) o
   unfolding entries functions self
   pivot-of-first a l none h = fun-ext (zero-everywhere R a h)
   pivot-of-first a l (some p) h = (omega (arith, h .0), h .1)
@@ -76,56 +76,35 @@ module _ {F M W : Type 0} {R : Arithmetic F} (𝓥 : Module R W) (L : M → W) w
   weighted-multiply [] x a = sym (act-null 𝓥 x)
   weighted-multiply (m ∷ B) x a = ap₂ plus (act-mul x (a 0) (L m)) (weighted-multiply B x (λ k. a (suc k))) ∙ sym (act-plus x _ _)
 
-  value-terms : (B : List M) (c : List F) → lin 𝓥 L (terms B c) ≡ weighted-sum B (λ k. getD c k (R .zero))
-  unfolding terms lin weighted-sum
+  value-terms : (B : List M) (c : List F) → lin 𝓥 L (polynomialOf B c) ≡ weighted-sum B (λ k. getD c k (R .zero))
+  unfolding polynomialOf lin weighted-sum
   value-terms [] c = refl
   value-terms (b ∷ B) [] = sym (weighted-zero (b ∷ B) (λ k. R .zero) (λ k l. refl))
   value-terms (b ∷ B) (x ∷ c) = ap (plus _) (value-terms B c)
 
-  pub value-subtract : (B : List M) (a : List F) (x : F) (b : List F) → lin 𝓥 L (terms B (subtract-multiple R a x b)) ≡ subtract 𝓥 (lin 𝓥 L (terms B a)) x (lin 𝓥 L (terms B b))
+  pub value-subtract : (B : List M) (a : List F) (x : F) (b : List F) → lin 𝓥 L (polynomialOf B (subtract-multiple R a x b)) ≡ subtract 𝓥 (lin 𝓥 L (polynomialOf B a)) x (lin 𝓥 L (polynomialOf B b))
   value-subtract B a x b = value-terms B (subtract-multiple R a x b) ∙ ap (weighted-sum B) (fun-ext (entry-subtract ring a x b)) ∙ weighted-subtract B _ x _
       ∙ ap₂ (λ u w. subtract 𝓥 u x w) (sym (value-terms B a)) (sym (value-terms B b))
 
-  pub value-multiply : (B : List M) (x : F) (a : List F) → lin 𝓥 L (terms B (multiply R x a)) ≡ act x (lin 𝓥 L (terms B a))
+  pub value-multiply : (B : List M) (x : F) (a : List F) → lin 𝓥 L (polynomialOf B (multiply R x a)) ≡ act x (lin 𝓥 L (polynomialOf B a))
   value-multiply B x a = value-terms B (multiply R x a) ∙ ap (weighted-sum B) (fun-ext (entry-multiply ring x a)) ∙ weighted-multiply B x _ ∙ ap (act x) (sym (value-terms B a))
 
   -- A list that is one at the place of m and zero before.
-  pub value-unit : (B : List M) (m : M) (c : List F) → ZeroBelow R c (length B) → getD c (length B) (R .zero) ≡ R .one → lin 𝓥 L (terms (B ++ (m ∷ [])) c) ≡ L m
+  pub value-unit : (B : List M) (m : M) (c : List F) → ZeroBelow R c (length B) → getD c (length B) (R .zero) ≡ R .one → lin 𝓥 L (polynomialOf (B ++ (m ∷ [])) c) ≡ L m
   value-unit B m c z o = value-terms (B ++ (m ∷ [])) c ∙ weighted-append B m _ ∙ ap₂ plus (weighted-zero B _ z) (ap (λ x. act x (L m)) o ∙ act-one (L m)) ∙ null-plus 𝓥 _
 
-  pub value-zero : (B : List M) (c : List F) → ZeroBelow R c (length B) → lin 𝓥 L (terms B c) ≡ null
+  pub value-zero : (B : List M) (c : List F) → ZeroBelow R c (length B) → lin 𝓥 L (polynomialOf B c) ≡ null
   value-zero B c z = value-terms B c ∙ weighted-zero B _ z
 
   -- A list that is zero at the place of m.
-  pub value-extend : (B : List M) (m : M) (c : List F) → getD c (length B) (R .zero) ≡ R .zero → lin 𝓥 L (terms (B ++ (m ∷ [])) c) ≡ lin 𝓥 L (terms B c)
+  pub value-extend : (B : List M) (m : M) (c : List F) → getD c (length B) (R .zero) ≡ R .zero → lin 𝓥 L (polynomialOf (B ++ (m ∷ [])) c) ≡ lin 𝓥 L (polynomialOf B c)
   value-extend B m c z = value-terms (B ++ (m ∷ [])) c ∙ weighted-append B m _ ∙ ap (plus _) (ap (λ x. act x (L m)) z ∙ zero-act 𝓥 (L m)) ∙ plus-null _ ∙ sym (value-terms B c)
-
-  -- Lists that grow: after k monomials at most k coefficients.
-  unfoldable pub growing-combinations : (D : ℕ) → Combinations 𝓥 L D
-  growing-combinations D = record {
-    Combination = List F;
-    terms = terms;
-    Fits = λ k c. length c ≤ k;
-    unit = unit-row R;
-    subtract-multiple = subtract-multiple R;
-    multiply = multiply R;
-    terms-among = terms-among;
-    value-unit = λ B m l. value-unit B m (unit-row R (length B)) (λ k h. entry-unit-row-other R (length B) k (omega arith)) (entry-unit-row-own R (length B));
-    value-unit-before = λ B. value-zero B (unit-row R (length B)) (λ k h. entry-unit-row-other R (length B) k (omega arith));
-    value-extend = λ B m c h. value-extend B m c (List·getD-eq-default c (R .zero) h);
-    value-subtract = value-subtract;
-    value-multiply = value-multiply;
-    fits-unit = λ k l. omega (arith, length-unit-row R k);
-    fits-extend = λ k c h. omega (arith, h);
-    fits-subtract = λ k a x b p q. length-subtract R a x b k p q;
-    fits-multiply = λ k x a p. omega (arith, length-multiply R x a);
-  }
 
   -- Arrays of D coefficients: after k monomials zero from place k on.
   unfoldable pub array-combinations : (D : ℕ) → Combinations 𝓥 L D
   array-combinations D = record {
     Combination = List F;
-    terms = terms;
+    terms = polynomialOf;
     Fits = ZeroFrom R D;
     unit = unit-array R D;
     subtract-multiple = subtract-multiple R;

@@ -1,34 +1,30 @@
 -- Rows of coefficients as lists; what is past the end of a list counts as zero.
---   unit-row R k                  one at place k, after zeros
---   first-nonzero R zero? a       the first place where a is not zero; first-from counts on from a number
---   ZeroBelow R a n               a is zero at all places below n
---   ZeroFrom R D n a              a has D places and is zero from place n on
---   First R a o                   o is the first place where a is not zero, or none and a is zero
--- Of lengths: length-subtract, length-subtract-same, length-multiply, length-unit-row, length-unit-array
--- Of entries: entry-subtract, entry-multiply, entry-unit-row-own, entry-unit-row-other, entry-unit-array-own, entry-unit-array-other
+--   first-nonzero R zero? a   the first place where a is not zero; first-from counts on from a number
+--   ZeroBelow R a n           a is zero at all places below n
+--   ZeroFrom R D n a          a has D places and is zero from place n on
+--   FirstNonzero R a o        o is the first place where a is not zero, or none and a is zero
+-- Of lengths: length-subtract, length-subtract-same, length-multiply, length-unit-array
+-- Of entries: entry-subtract, entry-multiply, entry-unit-array-own, entry-unit-array-other
 -- Of zeros: zero-everywhere, zero-from-subtract, zero-from-multiply
 -- first-found: first-nonzero finds the first place; first-unique: there is one only
--- Of terms: terms-among, scale-terms, negate-terms
+-- Of terms: terms-among, scale-terms
 use mathlib.Core.Path.{_≡_, refl, sym, _∙_, ap, ap₂, subst}
-use mathlib.Core.List.{List, [], _∷_, map, List·Memᴰ·head, List·Memᴰ·tail}
+use mathlib.Core.List.{List, [], _∷_, List·Memᴰ·head, List·Memᴰ·tail}
 use mathlib.Core.Logic.{_≢_}
 use mathlib.Core.Option.{Option, none, some}
 use Prim.Native.Nat.{ℕ, zero, suc, _+_, _-_, _≤_, _<_}
 use native.Mathlib.Omega.{arith}
-use lib.ListN.{length, getD, set, replicate, length-set, length-replicate, length-map}
+use lib.ListN.{length, getD, replicate, length-set, length-replicate, length-map}
 use lib.Seq.{getD-set-same, getD-set-other}
-use Rattle.residue.specs.Field.{Arithmetic, Ring}
-use Rattle.groebner.specs.Polynomials.{_∈_, Poly, All, all-nil, all-cons, scale, negate}
-use Rattle.groebner.specs.CoefficientRows.{subtract-multiple, multiply, unit-array, terms}
-use Rattle.groebner.proofs.Modules.{self, neg-act, opposite-null, opposite-opposite, zero-add, mul-zero}
+use Rattle.lists.specs.Lists.{_∈_}
+use Rattle.residue.specs.Field.{Arithmetic}
+use Rattle.residue.specs.RingLaws.{Ring}
+use Rattle.groebner.specs.Polynomials.{All, all-nil, all-cons, scale}
+use Rattle.groebner.specs.CoefficientRows.{subtract-multiple, multiply, unit-array, polynomialOf}
+use Rattle.groebner.proofs.Modules.{self, opposite-null, zero-add, mul-zero}
 use Rattle.groebner.proofs.Linear.{all-map}
 
 module _ {F : Type 0} (R : Arithmetic F) where
-  -- One at place k, after zeros.
-  unfoldable pub unit-row : ℕ → List F
-  unit-row zero = R .one ∷ []
-  unit-row (suc k) = R .zero ∷ unit-row k
-
   -- The first place of a that is not zero, counted from k on.
   unfoldable pub first-from : ((c : F) → Dec (c ≡ R .zero)) → ℕ → List F → Option ℕ
   first-from zero? k [] = none
@@ -48,9 +44,9 @@ module _ {F : Type 0} (R : Arithmetic F) where
   ZeroFrom D n a = (length a ≡ D) × ((k : ℕ) → n ≤ k → getD a k (R .zero) ≡ R .zero)
 
   -- o is the first place where a is not zero, or none and a is zero.
-  abbrev pub First : List F → Option ℕ → Type 0
-  First a none = ZeroBelow a (length a)
-  First a (some p) = (p < length a) × ¬ (getD a p (R .zero) ≡ R .zero) × ZeroBelow a p
+  abbrev pub FirstNonzero : List F → Option ℕ → Type 0
+  FirstNonzero a none = ZeroBelow a (length a)
+  FirstNonzero a (some p) = (p < length a) × ¬ (getD a p (R .zero) ≡ R .zero) × ZeroBelow a p
 
   pub length-subtract : (a : List F) (c : F) (b : List F) (k : ℕ) → length a ≤ k → length b ≤ k → length (subtract-multiple R a c b) ≤ k
   unfolding subtract-multiple
@@ -70,26 +66,9 @@ module _ {F : Type 0} (R : Arithmetic F) where
   unfolding multiply
   length-multiply c a = length-map a (R .mul c)
 
-  pub length-unit-row : (k : ℕ) → length (unit-row k) ≡ suc k
-  unfolding unit-row
-  length-unit-row zero = refl
-  length-unit-row (suc k) = ap suc (length-unit-row k)
-
   pub length-unit-array : (D k : ℕ) → length (unit-array R D k) ≡ D
   unfolding unit-array
   length-unit-array D k = length-set (replicate D (R .zero)) k (R .one) ∙ length-replicate D (R .zero)
-
-  pub entry-unit-row-own : (k : ℕ) → getD (unit-row k) k (R .zero) ≡ R .one
-  unfolding unit-row
-  entry-unit-row-own zero = refl
-  entry-unit-row-own (suc k) = entry-unit-row-own k
-
-  pub entry-unit-row-other : (k j : ℕ) → j ≢ k → getD (unit-row k) j (R .zero) ≡ R .zero
-  unfolding unit-row
-  entry-unit-row-other zero zero n = absurd (n refl)
-  entry-unit-row-other zero (suc j) n = refl
-  entry-unit-row-other (suc k) zero n = refl
-  entry-unit-row-other (suc k) (suc j) n = entry-unit-row-other k j (λ e. n (ap suc e))
 
   entry-zeros : (D k : ℕ) → getD (replicate D (R .zero)) k (R .zero) ≡ R .zero
   entry-zeros zero k = refl
@@ -115,15 +94,15 @@ module _ {F : Type 0} (R : Arithmetic F) where
   zero-everywhere (x ∷ a) h (suc k) = zero-everywhere a (λ j l. h (suc j) (omega arith)) k
 
   abbrev FirstFrom : ℕ → List F → Option ℕ → Type 0
-  FirstFrom k a none = First a none
-  FirstFrom k a (some p) = (i : ℕ) × (p ≡ k + i) × First a (some i)
+  FirstFrom k a none = FirstNonzero a none
+  FirstFrom k a (some p) = (i : ℕ) × (p ≡ k + i) × FirstNonzero a (some i)
 
   first-cons : (x : F) (a : List F) (k : ℕ) (o : Option ℕ) → x ≡ R .zero → FirstFrom (suc k) a o → FirstFrom k (x ∷ a) o
   first-cons x a k none e h = zero-cons x a (length a) e h
   first-cons x a k (some p) e h = (suc (h .0), omega (arith, h .1), (omega (arith, h .2 .0), h .2 .1, zero-cons x a (h .0) e (h .2 .2)))
 
   -- There is one first place only.
-  pub first-unique : (a : List F) (o o′ : Option ℕ) → First a o → First a o′ → o ≡ o′
+  pub first-unique : (a : List F) (o o′ : Option ℕ) → FirstNonzero a o → FirstNonzero a o′ → o ≡ o′
   first-unique a none none h h′ = refl
   first-unique a none (some p) h h′ = absurd (h′ .1 (h p (h′ .0)))
   first-unique a (some p) none h h′ = absurd (h .1 (h′ p (h .0)))
@@ -142,13 +121,13 @@ module _ {F : Type 0} (R : Arithmetic F) where
         step (yes e) h = first-cons x a k (first-from zero? (suc k) a) e h
         step (no n) h = (0, omega arith, (omega arith, n, λ j l. absurd (omega arith)))
 
-    pub first-found : (a : List F) → First a (first-nonzero zero? a)
+    pub first-found : (a : List F) → FirstNonzero a (first-nonzero zero? a)
     unfolding first-nonzero
     first-found a = step (first-from zero? 0 a) (first-from-found 0 a)
       where
-        step : (o : Option ℕ) → FirstFrom 0 a o → First a o
+        step : (o : Option ℕ) → FirstFrom 0 a o → FirstNonzero a o
         step none h = h
-        step (some p) h = subst (λ k. First a (some k)) (omega (arith, h .1)) (h .2)
+        step (some p) h = subst (λ k. FirstNonzero a (some k)) (omega (arith, h .1)) (h .2)
 
 module _ {F : Type 0} {R : Arithmetic F} (ring : Ring R) where
   subtract-zero : (x c : F) → R .add x (R .neg (R .mul c (R .zero))) ≡ x
@@ -180,25 +159,14 @@ module _ {F : Type 0} {R : Arithmetic F} (ring : Ring R) where
   pub zero-from-multiply : (D n : ℕ) (c : F) (a : List F) → ZeroFrom R D n a → ZeroFrom R D n (multiply R c a)
   zero-from-multiply D n c a p = (length-multiply R c a ∙ p .0, λ k l. entry-multiply c a k ∙ ap (R .mul c) (p .1 k l) ∙ mul-zero ring c)
 
-pub terms-among : {F M : Type 0} (B : List M) (c : List F) → All (λ b. b ∈ B) (terms B c)
-unfolding terms
+pub terms-among : {F M : Type 0} (B : List M) (c : List F) → All (λ b. b ∈ B) (polynomialOf B c)
+unfolding polynomialOf
 terms-among [] c = all-nil
 terms-among (b ∷ B) [] = all-nil
 terms-among (b ∷ B) (x ∷ c) = all-cons (List·Memᴰ·head refl) (all-map (λ m i. List·Memᴰ·tail i) (terms-among B c))
 
-pub scale-terms : {F M : Type 0} (R : Arithmetic F) (x : F) (B : List M) (c : List F) → scale R x (terms B c) ≡ terms B (multiply R x c)
-unfolding scale terms multiply
+pub scale-terms : {F M : Type 0} (R : Arithmetic F) (x : F) (B : List M) (c : List F) → scale R x (polynomialOf B c) ≡ polynomialOf B (multiply R x c)
+unfolding scale polynomialOf multiply
 scale-terms R x [] c = refl
 scale-terms R x (b ∷ B) [] = refl
 scale-terms R x (b ∷ B) (y ∷ c) = ap ((R .mul x y, b) ∷_) (scale-terms R x B c)
-
-module _ {F : Type 0} {R : Arithmetic F} (ring : Ring R) where
-  negate-twice : (c : List F) → multiply R (R .neg (R .one)) (multiply R (R .neg (R .one)) c) ≡ c
-  unfolding multiply self
-  negate-twice [] = refl
-  negate-twice (x ∷ c) = ap₂ _∷_ (simp (neg-act (self ring), self ring .act-one, opposite-opposite (self ring))) (negate-twice c)
-
-  -- The answer to a dependent monomial is the opposite of what is left of its combination.
-  pub negate-terms : {M : Type 0} (B : List M) (c : List F) → negate R (terms B (multiply R (R .neg (R .one)) c)) ≡ terms B c
-  unfolding negate
-  negate-terms B c = scale-terms R _ B _ ∙ ap (terms B) (negate-twice c)

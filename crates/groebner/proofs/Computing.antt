@@ -1,13 +1,13 @@
 -- Deciding by computation what the definitions say of explicit polynomials and lines.
---   Deciders R 𝓜 lt              what the others rest on: equality of coefficients, divisibility, the order
---   by-lex, by-grevlex            these for residues and monomials in n variables, from residue?, divides? and less?
---   all?, polynomial?, same?, sum?, product?, combination?, reducible?, finished?, falling?, rising?, lines?, clear?, leading?
+--   Deciders R 𝓜 lt            what the others rest on: equality of coefficients, divisibility, the order
+--   by-lex, by-grevlex         these for residues and monomials in n variables, from residue?, divides? and less?
+--   all?, polynomial?, same?, sum?, product?, combination?, reducible-by?, finished?, falling?, rising?, lines?, clear?, leading?
 --                                 decisions of the definitions of the same names
---   earliest D m G                a search for the earliest line that divides m
---   step-at D G f f′ l            a search for the step from f to f′ that cancels one of the terms l of f
---   end f l                       the polynomial at the end of the list l that begins with f
---   division D G f l              a search for the division of f that passes through the polynomials of l, one step each
---   s-polynomial D f g m w s      a search for what makes s the S-polynomial of f and g, at their least common multiple m
+--   earliest D m G             a search for the earliest line that divides m
+--   step-at D G f f′ l         a search for the step from f to f′ that cancels one of the terms l of f
+--   end f l                    the polynomial at the end of the list l that begins with f
+--   division D G f l           a search for the division of f that passes through the polynomials of l, one step each
+--   s-polynomial D f g m w s   a search for what makes s the S-polynomial of f and g, at their least common multiple m
 use mathlib.Core.Path.{_≡_, refl, sym, _∙_, ap, subst}
 use mathlib.Core.List.{List, [], _∷_, _++_, List·Memᴰ·head, List·Memᴰ·tail, List·Memᴰ·not-nil, List·Memᴰ·cases-cons}
 use mathlib.Core.Logic.{_⊎_, inl, inr}
@@ -17,20 +17,24 @@ use mathlib.Core.HLevel.{Σ-prop-path}
 use Prim.Native.Nat.{ℕ}
 use native.Mathlib.Bridge.{le-prop}
 use native.Mathlib.Decide.{ℕ-discrete}
+use Rattle.lists.specs.Lists.{_∈_}
 use Rattle.residue.specs.Prime.{Prime}
-use Rattle.residue.specs.Field.{Arithmetic, Ring, ZMod, modulo}
+use Rattle.residue.specs.Field.{Arithmetic, ZMod, modulo}
+use Rattle.residue.specs.RingLaws.{Ring}
 use Rattle.residue.proofs.ResidueField.{residue-ring}
-use Rattle.monomial.specs.Rows.{Row, quotient, divides}
+use Rattle.monomial.specs.Rows.{Row}
+use Rattle.monomial.specs.Quotients.{quotient, divides}
 use Rattle.monomial.specs.Orders.{lex, grevlex}
-use Rattle.monomial.specs.Ordering.{Monomials, Divides, Lcm, rows, Lex, Grevlex}
+use Rattle.monomial.specs.Ordering.{Monomials, Divides, Lcm, monomials, Lex, Grevlex}
 use Rattle.monomial.specs.declared.order.Comparison.{Comparison}
 use Rattle.monomial.specs.declared.order.Comparison.the-variants.{Less, Equal, Greater}
 use Rattle.monomial.proofs.Products.{divides-iff, product-quotient}
-use Rattle.groebner.specs.Polynomials.{_∈_, Poly, All, all-nil, all-cons, Polynomial, relabel, scale, negate, minus, shift, expand, times, coef, Same, IsSum, IsProduct}
+use Rattle.groebner.specs.Polynomials.{Poly, All, all-nil, all-cons, Polynomial, relabel, scale, negate, minus, shift, expand, times, coef, Same, IsSum, IsProduct}
 use Rattle.groebner.specs.Lines.{Line, polynomial, Falling, Lines, Reducible, Earliest, Rising}
-use Rattle.groebner.specs.Remainders.{Finished, Step, Remainder, done, step}
+use Rattle.groebner.specs.Remainders.{Normal, Step, Remainder, done, step}
 use Rattle.groebner.specs.Ideals.{combine}
-use Rattle.groebner.specs.Bases.{Leading, Clear, SPolynomial}
+use Rattle.groebner.specs.Bases.{Leading, SPolynomial}
+use Rattle.groebner.specs.Criteria.{Clear}
 use Rattle.groebner.proofs.Terms.{all-at, all-of, find, coef-absent}
 use Rattle.groebner.proofs.Deciding.{not?, both?, either?, implies?, as?, each?, pairs?}
 
@@ -90,10 +94,10 @@ module _ {F M : Type 0} {R : Arithmetic F} {𝓜 : Monomials M} {lt : M → M �
   unfolding same? relabel expand
   combination? rs fs f = same? f (combine R 𝓜 rs fs)
 
-  unfoldable pub reducible? : (G : List (Line F M)) (m : M) → Dec (Reducible 𝓜 G m)
+  unfoldable pub reducible-by? : (G : List (Line F M)) (m : M) → Dec (Reducible 𝓜 G m)
   unfolding either? as?
-  reducible? [] m = no (λ r. List·Memᴰ·not-nil (r .1))
-  reducible? (h ∷ G) m = as? to (λ r. back r (List·Memᴰ·cases-cons (r .1))) (either? (divisor? (h .0) m) (reducible? G m))
+  reducible-by? [] m = no (λ r. List·Memᴰ·not-nil (r .1))
+  reducible-by? (h ∷ G) m = as? to (λ r. back r (List·Memᴰ·cases-cons (r .1))) (either? (divisor? (h .0) m) (reducible-by? G m))
     where
       to : Divides 𝓜 (h .0) m ⊎ Reducible 𝓜 G m → Reducible 𝓜 (h ∷ G) m
       to (inl d) = (h, List·Memᴰ·head refl, d)
@@ -103,9 +107,9 @@ module _ {F M : Type 0} {R : Arithmetic F} {𝓜 : Monomials M} {lt : M → M �
       back r (inl e) = inl (subst (λ (x : Line F M). Divides 𝓜 (x .0) m) e (r .2))
       back r (inr i) = inr (r .0, i, r .2)
 
-  unfoldable pub finished? : (G : List (Line F M)) (f : Poly F M) → Dec (Finished 𝓜 G f)
-  unfolding not? as? all? reducible?
-  finished? G f = as? (λ a c m i. all-at a i) (λ h. all-of f h) (all? (λ m. not? (reducible? G m)) f)
+  unfoldable pub finished? : (G : List (Line F M)) (f : Poly F M) → Dec (Normal 𝓜 G f)
+  unfolding not? as? all? reducible-by?
+  finished? G f = as? (λ a c m i. all-at a i) (λ h. all-of f h) (all? (λ m. not? (reducible-by? G m)) f)
 
   unfoldable pub falling? : (f : Poly F M) → Dec (Falling lt f)
   unfolding both? all?
@@ -153,9 +157,9 @@ module _ {F M : Type 0} {R : Arithmetic F} {𝓜 : Monomials M} {lt : M → M �
   module _ (G : List (Line F M)) where
     -- The step from f to f′ that cancels one of the terms l of f.
     unfoldable pub step-at : (f f′ l : Poly F M) → ((t : F × M) → t ∈ l → t ∈ f) → Option (Step R 𝓜 lt G f f′)
-    unfolding either? implies? both? as? all? same? polynomial? reducible? earliest scale negate relabel polynomial
+    unfolding either? implies? both? as? all? same? polynomial? reducible-by? earliest scale negate relabel polynomial
     step-at f f′ [] i = none
-    step-at f f′ (t ∷ l) i = greatest (all? (λ k. implies? (reducible? G k) (either? (𝓜 .same? k (t .1)) (below? k (t .1)))) f) (earliest (t .1) G)
+    step-at f f′ (t ∷ l) i = greatest (all? (λ k. implies? (reducible-by? G k) (either? (𝓜 .same? k (t .1)) (below? k (t .1)))) f) (earliest (t .1) G)
         (step-at f f′ l (λ s j. i s (List·Memᴰ·tail j)))
       where
         Greatest : Type 0
@@ -186,7 +190,7 @@ module _ {F M : Type 0} {R : Arithmetic F} {𝓜 : Monomials M} {lt : M → M �
     unfolding step-at finished?
     division f [] = at (finished? G f)
       where
-        at : Dec (Finished 𝓜 G f) → Option (Remainder R 𝓜 lt G f f)
+        at : Dec (Normal 𝓜 G f) → Option (Remainder R 𝓜 lt G f f)
         at (no n) = none
         at (yes h) = some (done h)
     division f (g ∷ l) = at (step-at f g f (λ t i. i)) (division g l)
@@ -216,11 +220,11 @@ unfolding as? ℕ-discrete
 residue? p a b = as? (Σ-prop-path (λ x. le-prop)) (ap (λ (x : ZMod p). x .0)) (ℕ-discrete (a .0) (b .0))
 
 -- Monomials in n variables.
-unfoldable pub divides? : (n : ℕ) (a b : Row n) → Dec (Divides (rows n) a b)
-unfolding rows divides quotient
+unfoldable pub divides? : (n : ℕ) (a b : Row n) → Dec (Divides (monomials n) a b)
+unfolding monomials divides quotient
 divides? n a b = at (divides n a b) refl
   where
-    at : (t : Bool) → divides n a b ≡ t → Dec (Divides (rows n) a b)
+    at : (t : Bool) → divides n a b ≡ t → Dec (Divides (monomials n) a b)
     at true e = yes (quotient n b a, sym (product-quotient n b a e))
     at false e = no (λ d. false≢true (sym e ∙ divides-iff n a b .1 d))
 
@@ -237,10 +241,10 @@ less? Equal = no (λ e. subst Smaller (sym e) tt)
 less? Greater = no (λ e. subst Smaller (sym e) tt)
 
 module _ (p : ℕ) (prime : Prime p) (n : ℕ) where
-  unfoldable pub by-grevlex : Deciders (modulo p (prime .above-one)) (rows n) (Grevlex n)
-  unfolding modulo rows residue? divides? less? grevlex
+  unfoldable pub by-grevlex : Deciders (modulo p (prime .above-one)) (monomials n) (Grevlex n)
+  unfolding modulo monomials residue? divides? less? grevlex
   by-grevlex = record { ring = residue-ring p (prime .above-one); equal? = residue? p; divisor? = divides? n; below? = λ a b. less? (grevlex n a b) }
 
-  unfoldable pub by-lex : (s : List ℕ) → Deciders (modulo p (prime .above-one)) (rows n) (Lex n s)
-  unfolding modulo rows residue? divides? less? lex
+  unfoldable pub by-lex : (s : List ℕ) → Deciders (modulo p (prime .above-one)) (monomials n) (Lex n s)
+  unfolding modulo monomials residue? divides? less? lex
   by-lex s = record { ring = residue-ring p (prime .above-one); equal? = residue? p; divisor? = divides? n; below? = λ a b. less? (lex n s a b) }

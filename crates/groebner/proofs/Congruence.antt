@@ -1,27 +1,30 @@
 -- Congruence modulo the ideal, and remainders (T4): on a Groebner basis remainders are equal exactly when the difference lies in the ideal, and sums and
 -- products of congruent polynomials are congruent.
---   Congruent S f g          the difference lies in the ideal of the rewriting system S: cong-sym, cong-trans, cong-same, cong-add, cong-mul, cong-NF
+--   Congruent S f g          the difference lies in the ideal of the rewriting system S: cong-sym, cong-trans, cong-same, cong-add, cong-mul
 --   agree-of-member, member-of-agree, NF-minus, times-comm, into
 --   Modulo G f g             f and g differ by an element of the ideal of the lines G: modulo-same, modulo-sym, modulo-trans, modulo-sum, modulo-product
 --   modulo-remainder         a polynomial and its remainder are congruent (T2)
---   equal-iff-modulo         of a Groebner basis: equal remainders exactly when congruent (T4)
+--   equal-iff-modulo         of a Groebner basis: equal remainders exactly when congruent (T4); equal-of-modulo, modulo-of-equal are its two sides
 --   remainder-sum            the remainder of a sum is the sum of the remainders, whatever the lines are (T1)
 use mathlib.Core.Path.{_≡_, refl, sym, _∙_, ap, ap₂, fun-ext}
 use mathlib.Core.List.{List, _++_}
 use mathlib.Core.Logic.{_↔_}
-use Rattle.residue.specs.Field.{Arithmetic, Field}
-use Rattle.monomial.specs.Ordering.{Monomials, MonomialOrder}
+use Rattle.residue.specs.Field.{Arithmetic}
+use Rattle.residue.specs.RingLaws.{Field}
+use Rattle.monomial.specs.Ordering.{Monomials}
+use Rattle.monomial.specs.OrderLaws.{MonomialOrder}
 use Rattle.groebner.specs.Polynomials.{Poly, Polynomial, Equal, negate, minus, shift, times, δ, coef, Same, IsSum, IsProduct}
-use Rattle.groebner.specs.Lines.{Line, Low}
+use Rattle.groebner.specs.Lines.{Line}
+use Rattle.groebner.specs.Criteria.{Low}
 use Rattle.groebner.specs.Remainders.{Remainder}
 use Rattle.groebner.specs.Ideals.{IdealOf}
 use Rattle.groebner.specs.Bases.{Groebner}
 use Rattle.groebner.proofs.Modules.{self, plus-medial, opposite-plus, equal-of-difference, swap-difference, chain-difference}
 use Rattle.groebner.proofs.Linear.{all-true, lin, lin-append, lin-negate, lin-plus, lin-opposite, lin-swap, lin-self}
 use Rattle.groebner.proofs.Terms.{coef-append, coef-minus, coef-shift, coef-times, equal-of-same, same-of-equal}
-use Rattle.groebner.proofs.NormalForms.{Rewriting, line, multiple, NF, NF-coef, NF-same, Member, coef-combination, member-zero, member-add, member-neg, member-same, member-lin, member-shift, member-of-NF, residue}
+use Rattle.groebner.proofs.NormalForms.{Rewriting, rule, ruleMultiple, NF, NF-coef, NF-same, Member, coef-combination, member-zero, member-add, member-neg, member-same, member-lin, member-shift, member-of-NF}
 use Rattle.groebner.proofs.Ground.{PolynomialRing}
-use Rattle.groebner.proofs.Division.{Place, rewriting, remainder-NF, remainder-proper}
+use Rattle.groebner.proofs.Division.{LinePlace, rewriting, remainder-NF, remainder-proper}
 use Rattle.groebner.proofs.Ideals.{member-of-ideal, ideal-of-member}
 use Rattle.groebner.proofs.GroebnerBases.{remainder-member, groebner-NF}
 
@@ -48,10 +51,6 @@ module _ {F M I : Type 0} {R : Arithmetic F} {𝓜 : Monomials M} (S : Rewriting
   pub cong-trans : (f g h : Poly F M) → Congruent f g → Congruent g h → Congruent f h
   unfolding Congruent self
   cong-trans f g h a b = member-same S _ _ (λ k. chain-difference (self ring) (coef R 𝓜 f k) (coef R 𝓜 g k) (coef R 𝓜 h k)) (member-add S _ _ a b)
-
-  pub cong-NF : (f : Poly F M) → Congruent f (NF S f)
-  unfolding Congruent
-  cong-NF f = residue S f
 
   cong-mul-right : (f g g′ : Poly F M) → Congruent g g′ → Congruent (times R 𝓜 f g) (times R 𝓜 f g′)
   unfolding Congruent self
@@ -95,17 +94,17 @@ module _ {F M I : Type 0} {R : Arithmetic F} {𝓜 : Monomials M} (S : Rewriting
   member-of-agree f g h = member-of-NF S (minus R f g) (λ k. NF-minus f g k ∙ ap₂ (R .add) (h k) refl ∙ ring .add-neg _)
 
 -- Of two rewriting systems: if the lines of T lie in the ideal of S, so does the ideal of T.
-pub into : {F M I J : Type 0} {R : Arithmetic F} {𝓜 : Monomials M} (S : Rewriting R 𝓜 I) (T : Rewriting R 𝓜 J) → ((j : J) → Member S (coef R 𝓜 (line T j))) → (v : M → F) → Member T v → Member S v
-unfolding multiple
-into {R = R} {𝓜} S T inc v a = member-same S _ _ (λ k. a .1 k ∙ coef-combination T (a .0) k ∙ lin-self (T .ring) (S .ring) (λ x. coef R 𝓜 (multiple T (x .0) (x .1)) k) (a .0))
-    (member-lin S (λ k x. coef R 𝓜 (multiple T (x .0) (x .1)) k) (all-true (λ x. member-shift S (x .0) (line T (x .1)) (inc (x .1))) (a .0)))
+pub into : {F M I J : Type 0} {R : Arithmetic F} {𝓜 : Monomials M} (S : Rewriting R 𝓜 I) (T : Rewriting R 𝓜 J) → ((j : J) → Member S (coef R 𝓜 (rule T j))) → (v : M → F) → Member T v → Member S v
+unfolding ruleMultiple
+into {R = R} {𝓜} S T inc v a = member-same S _ _ (λ k. a .1 k ∙ coef-combination T (a .0) k ∙ lin-self (T .ring) (S .ring) (λ x. coef R 𝓜 (ruleMultiple T (x .0) (x .1)) k) (a .0))
+    (member-lin S (λ k x. coef R 𝓜 (ruleMultiple T (x .0) (x .1)) k) (all-true (λ x. member-shift S (x .0) (rule T (x .1)) (inc (x .1))) (a .0)))
 
 module _ {F M : Type 0} {R : Arithmetic F} {𝓜 : Monomials M} {lt : M → M → Type 0} (𝓟 : PolynomialRing R 𝓜) (ord : MonomialOrder 𝓜 lt) (G : List (Line F M)) (low : Low lt G) where
   open Arithmetic R using (add)
   open PolynomialRing 𝓟 using (field)
   open Field field using (ring)
 
-  abbrev S : Rewriting R 𝓜 (Place G)
+  abbrev S : Rewriting R 𝓜 (LinePlace G)
   S = rewriting 𝓟 ord G low
 
   -- f and g differ by an element of the ideal of the lines.

@@ -15,9 +15,10 @@ use mathlib.Core.Logic.{_⊎_, inl, inr}
 use Prim.Native.Nat.{ℕ, zero, suc, _<_}
 use native.Mathlib.Omega.{arith}
 use lib.ListN.{length, getD}
-use Rattle.residue.specs.Field.{Arithmetic, Ring}
-use Rattle.groebner.specs.Polynomials.{_∈_, Poly}
-use Rattle.groebner.specs.Lines.{Once}
+use Rattle.lists.specs.Lists.{_∈_, Once}
+use Rattle.residue.specs.Field.{Arithmetic}
+use Rattle.residue.specs.RingLaws.{Ring}
+use Rattle.groebner.specs.Polynomials.{Poly}
 use Rattle.groebner.proofs.Modules.{Module, self, functions, mul-zero}
 use Rattle.groebner.proofs.Linear.{lin}
 use Rattle.groebner.proofs.Members.{member?}

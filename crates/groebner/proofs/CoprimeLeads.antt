@@ -10,18 +10,22 @@
 use mathlib.Core.Path.{_≡_, refl, sym, _∙_, ap, ap₂, subst, fun-ext}
 use mathlib.Core.List.{List, [], _∷_, _++_}
 use mathlib.Core.Logic.{_⊎_, inl, inr}
-use Rattle.residue.specs.Field.{Arithmetic, Field}
-use Rattle.monomial.specs.Ordering.{Monomials, Lcm, MonomialOrder}
+use Rattle.lists.specs.Pairs.{Before}
+use Rattle.residue.specs.Field.{Arithmetic}
+use Rattle.residue.specs.RingLaws.{Field}
+use Rattle.monomial.specs.Ordering.{Monomials, Lcm}
+use Rattle.monomial.specs.OrderLaws.{MonomialOrder}
 use Rattle.groebner.specs.Polynomials.{Poly, all-nil, relabel, negate, minus, δ, coef}
-use Rattle.groebner.specs.Lines.{Before, Line, Low}
+use Rattle.groebner.specs.Lines.{Line}
+use Rattle.groebner.specs.Criteria.{Low}
 use Rattle.groebner.specs.Bases.{Groebner}
 use Rattle.groebner.proofs.Modules.{self, cancel-difference}
 use Rattle.groebner.proofs.Linear.{all-append, all-map, all-scale, all-relabel, lin, lin-append, lin-negate, lin-relabel, lin-plus, lin-swap}
 use Rattle.groebner.proofs.Terms.{coef-minus, coef-shift}
-use Rattle.groebner.proofs.NormalForms.{Rewriting, line, multiple, combination, coef-combination}
+use Rattle.groebner.proofs.NormalForms.{Rewriting, rule, ruleMultiple, rulesCombined, coef-combination}
 use Rattle.groebner.proofs.SPairs.{SPair, NF-of-member}
 use Rattle.groebner.proofs.Ground.{PolynomialRing, cancel-right}
-use Rattle.groebner.proofs.Division.{Place, rewriting}
+use Rattle.groebner.proofs.Division.{LinePlace, rewriting}
 use Rattle.groebner.proofs.Ideals.{member-of-ideal, coef-combination-nil}
 use Rattle.groebner.proofs.GroebnerBases.{groebner-of-zero, zero-remainder}
 use Rattle.groebner.proofs.Buchberger.{before-or}
@@ -36,41 +40,41 @@ module _ {F M : Type 0} {R : Arithmetic F} {𝓜 : Monomials M} {lt : M → M �
   open PolynomialRing 𝓟 using (field, monoid)
   open Field field using (ring)
 
-  abbrev S : Rewriting R 𝓜 (Place G)
+  abbrev S : Rewriting R 𝓜 (LinePlace G)
   S = rewriting 𝓟 ord G low
 
-  lead-and-tail : (u : M) (i : Place G) (k : M) → coef R 𝓜 (multiple S u i) k ≡ add (δ R 𝓜 k (prod u (i .0 .0))) (lin (self ring) (λ m. δ R 𝓜 k (prod u m)) (i .0 .1))
-  unfolding multiple line lin self
-  lead-and-tail u i k = coef-shift ring 𝓜 u (line S i) k ∙ ap₂ add (self ring .act-one (δ R 𝓜 k (prod u (i .0 .0)))) refl
+  lead-and-tail : (u : M) (i : LinePlace G) (k : M) → coef R 𝓜 (ruleMultiple S u i) k ≡ add (δ R 𝓜 k (prod u (i .0 .0))) (lin (self ring) (λ m. δ R 𝓜 k (prod u m)) (i .0 .1))
+  unfolding ruleMultiple rule lin self
+  lead-and-tail u i k = coef-shift ring 𝓜 u (rule S i) k ∙ ap₂ add (self ring .act-one (δ R 𝓜 k (prod u (i .0 .0)))) refl
 
   -- tail_i·line j - tail_j·line i
-  tails : Place G → Place G → Poly F (M × Place G)
+  tails : LinePlace G → LinePlace G → Poly F (M × LinePlace G)
   tails i j = relabel (λ m. (m, j)) (i .0 .1) ++ negate R (relabel (λ m. (m, i)) (j .0 .1))
 
   module _ (k : M) where
     -- The coefficients at k.
-    abbrev led : Place G → Place G → F
+    abbrev led : LinePlace G → LinePlace G → F
     led i j = lin (self ring) (λ m. δ R 𝓜 k (prod (j .0 .0) m)) (i .0 .1)
 
-    abbrev crossed : Place G → Place G → F
+    abbrev crossed : LinePlace G → LinePlace G → F
     crossed i j = lin (self ring) (λ m. lin (self ring) (λ n. δ R 𝓜 k (prod m n)) (j .0 .1)) (i .0 .1)
 
-    abbrev at : M × Place G → F
-    at x = coef R 𝓜 (multiple S (x .0) (x .1)) k
+    abbrev at : M × LinePlace G → F
+    at x = coef R 𝓜 (ruleMultiple S (x .0) (x .1)) k
 
-    crossed-comm : (i j : Place G) → crossed i j ≡ crossed j i
+    crossed-comm : (i j : LinePlace G) → crossed i j ≡ crossed j i
     crossed-comm i j = lin-swap (self ring) (λ m n. δ R 𝓜 k (prod m n)) (i .0 .1) (j .0 .1)
         ∙ ap (λ (L : M → M → F). lin (self ring) (λ n. lin (self ring) (L n) (i .0 .1)) (j .0 .1)) (fun-ext (λ n. fun-ext (λ m. ap (δ R 𝓜 k) (monoid .mul-comm m n))))
 
-    tail-times-line : (i j : Place G) → lin (self ring) at (relabel (λ m. (m, j)) (i .0 .1)) ≡ add (crossed i j) (led i j)
+    tail-times-line : (i j : LinePlace G) → lin (self ring) at (relabel (λ m. (m, j)) (i .0 .1)) ≡ add (crossed i j) (led i j)
     unfolding self
     tail-times-line i j = lin-relabel (self ring) at (λ m. (m, j)) (i .0 .1)
         ∙ ap (λ (L : M → F). lin (self ring) L (i .0 .1)) (fun-ext (λ m. lead-and-tail m j k ∙ ring .add-comm _ _ ∙ ap (add _) (ap (δ R 𝓜 k) (monoid .mul-comm m (j .0 .0)))))
         ∙ lin-plus (self ring) (λ m. lin (self ring) (λ n. δ R 𝓜 k (prod m n)) (j .0 .1)) (λ m. δ R 𝓜 k (prod (j .0 .0) m)) (i .0 .1)
 
-    tails-cancel : (i j : Place G) → coef R 𝓜 (minus R (multiple S (j .0 .0) i) (multiple S (i .0 .0) j)) k ≡ coef R 𝓜 (combination S (tails i j)) k
+    tails-cancel : (i j : LinePlace G) → coef R 𝓜 (minus R (ruleMultiple S (j .0 .0) i) (ruleMultiple S (i .0 .0) j)) k ≡ coef R 𝓜 (rulesCombined S (tails i j)) k
     unfolding self tails
-    tails-cancel i j = coef-minus ring 𝓜 (multiple S (j .0 .0) i) (multiple S (i .0 .0) j) k
+    tails-cancel i j = coef-minus ring 𝓜 (ruleMultiple S (j .0 .0) i) (ruleMultiple S (i .0 .0) j) k
         ∙ ap₂ (λ x y. add x (neg y)) (lead-and-tail (j .0 .0) i k) (lead-and-tail (i .0 .0) j k ∙ ap (λ x. add x (led j i)) (ap (δ R 𝓜 k) (monoid .mul-comm (i .0 .0) (j .0 .0))))
         ∙ cancel-difference (self ring) (δ R 𝓜 k (prod (j .0 .0) (i .0 .0))) (led i j) (led j i)
         ∙ sym (coef-combination S (tails i j) k ∙ lin-append (self ring) at (relabel (λ m. (m, j)) (i .0 .1)) (negate R (relabel (λ m. (m, i)) (j .0 .1)))
@@ -78,7 +82,7 @@ module _ {F M : Type 0} {R : Arithmetic F} {𝓜 : Monomials M} {lt : M → M �
         ∙ cancel-difference (self ring) (crossed i j) (led i j) (led j i))
 
   -- The S-pair of two lines with coprime leading monomials.
-  coprime-pair : (i j : Place G) → Coprime 𝓜 (i .0 .0) (j .0 .0) → SPair S i j
+  coprime-pair : (i j : LinePlace G) → Coprime 𝓜 (i .0 .0) (j .0 .0) → SPair S i j
   unfolding tails negate
   coprime-pair i j c = record {
     a = j .0 .0;
@@ -100,8 +104,8 @@ module _ {F M : Type 0} {R : Arithmetic F} {𝓜 : Monomials M} {lt : M → M �
       top = prod (j .0 .0) (i .0 .0)
 
   -- The S-pair of a line with itself.
-  equal-pair : (i j : Place G) → i .0 ≡ j .0 → SPair S i j
-  unfolding multiple line
+  equal-pair : (i j : LinePlace G) → i .0 ≡ j .0 → SPair S i j
+  unfolding ruleMultiple rule
   equal-pair i j e = record {
     a = 𝓜 .one;
     b = 𝓜 .one;
@@ -112,8 +116,8 @@ module _ {F M : Type 0} {R : Arithmetic F} {𝓜 : Monomials M} {lt : M → M �
     );
     comb = [];
     below = all-nil;
-    rep = λ k. coef-minus ring 𝓜 (multiple S (𝓜 .one) i) (multiple S (𝓜 .one) j) k
-        ∙ ap (λ x. add x (neg (coef R 𝓜 (multiple S (𝓜 .one) j) k))) (ap (λ (x : Line F M). coef R 𝓜 (relabel (prod (𝓜 .one)) ((R .one, x .0) ∷ x .1)) k) e)
+    rep = λ k. coef-minus ring 𝓜 (ruleMultiple S (𝓜 .one) i) (ruleMultiple S (𝓜 .one) j) k
+        ∙ ap (λ x. add x (neg (coef R 𝓜 (ruleMultiple S (𝓜 .one) j) k))) (ap (λ (x : Line F M). coef R 𝓜 (relabel (prod (𝓜 .one)) ((R .one, x .0) ∷ x .1)) k) e)
         ∙ ring .add-neg _ ∙ sym (coef-combination-nil 𝓟 ord G low k);
   }
 
@@ -123,7 +127,7 @@ module _ {F M : Type 0} {R : Arithmetic F} {𝓜 : Monomials M} {lt : M → M �
   pub coprime-groebner : ((f g : Line F M) → Before f g G → Coprime 𝓜 (f .0) (g .0)) → Groebner R 𝓜 lt G
   coprime-groebner coprime = groebner-of-zero 𝓟 ord G low (λ f p a. zero-remainder 𝓟 ord G low f p (NF-of-member S (λ i j. pair i j (before-or (i .0) (j .0) G (i .1) (j .1))) f (member-of-ideal 𝓟 ord G low f a)))
     where
-      pair : (i j : Place G) → (i .0 ≡ j .0) ⊎ (Before (i .0) (j .0) G ⊎ Before (j .0) (i .0) G) → SPair S i j
+      pair : (i j : LinePlace G) → (i .0 ≡ j .0) ⊎ (Before (i .0) (j .0) G ⊎ Before (j .0) (i .0) G) → SPair S i j
       pair i j (inl e) = equal-pair i j e
       pair i j (inr (inl b)) = coprime-pair i j (coprime (i .0) (j .0) b)
       pair i j (inr (inr b)) = coprime-pair i j (coprime-swap (j .0 .0) (i .0 .0) (coprime (j .0) (i .0) b))

@@ -16,13 +16,12 @@ use native.Mathlib.Nat.{mul-suc, suc-mul, mul-le-mul-left}
 use native.Mathlib.Decide.{ℕ-discrete}
 use native.Mathlib.Omega.{arith}
 use lib.ListN.{length, length-append, length-map}
+use Rattle.lists.specs.Lists.{_∈_, Once}
 use Rattle.monomial.specs.Rows.{Row, exponent, one}
-use Rattle.monomial.specs.Ordering.{Divides, rows}
+use Rattle.monomial.specs.Ordering.{Divides, monomials}
 use Rattle.monomial.proofs.Products.{divisible-at}
-use Rattle.groebner.specs.Polynomials.{_∈_}
-use Rattle.groebner.specs.Lines.{Once}
-use Rattle.groebner.proofs.Lists.{pigeon, in-map, of-map, range, length-range, in-range, of-range, once-map-range}
 use Rattle.groebner.specs.Next.{withExponent, raise}
+use Rattle.groebner.proofs.Lists.{pigeon, in-map, of-map, range, length-range, in-range, of-range, once-map-range}
 use Rattle.groebner.proofs.Exponents.{with-same, with-other, divides-raise, raise-proper, Lowered, lowered}
 
 -- The monomials x_v·m.
@@ -56,7 +55,7 @@ in-all-raises n v m (k ∷ B) l i = at (List·Memᴰ·cases-cons i) (in-all-rais
 
 -- The proper divisors of m are in the list.
 abbrev pub Divisors : (n : ℕ) → Row n → List (Row n) → Type 0
-Divisors n m B = (d : Row n) → Divides (rows n) d m → ¬ (d ≡ m) → d ∈ B
+Divisors n m B = (d : Row n) → Divides (monomials n) d m → ¬ (d ≡ m) → d ∈ B
 
 module _ (n : ℕ) (m : Row n) (B : List (Row n)) (divisors : Divisors n m B) where
   pub one-or-raised : m ∈ (one n ∷ allRaises n B)
@@ -80,7 +79,7 @@ module _ (n : ℕ) (m : Row n) (B : List (Row n)) (divisors : Divisors n m B) wh
       injective : (a b : ℕ) → power a ≡ power b → a ≡ b
       injective a b q = sym (with-same n v a m l) ∙ ap (λ x. exponent n x v) q ∙ with-same n v b m l
 
-      divides : (j : ℕ) → j < e → Divides (rows n) (power j) m
+      divides : (j : ℕ) → j < e → Divides (monomials n) (power j) m
       divides j h = divisible-at n (power j) m .1 (λ i _. at i (ℕ-discrete i v))
         where
           at : (i : ℕ) → Dec (i ≡ v) → exponent n (power j) i ≤ exponent n m i

@@ -1,33 +1,33 @@
 -- Decisions and searches to compute with: what a decision says where it computes to yes, and decisions of compound statements.
---   Holds d, decided                      the decision d is yes; then what it decides holds
---   Found o, found                        the search o has found something; what that is
---   not?, both?, either?, implies?        decisions of ¬ A, A × B, A ⊎ B, A → B
---   as?                                   the decision of an equivalent statement
---   each?, pairs?, once?                  of each element of a list, of each earlier and later one, that none stands twice
+--   HoldsTrue d, decided             the decision d is yes; then what it decides holds
+--   Decided o, decided-found         the search o has found something; what that is
+--   not?, both?, either?, implies?   decisions of ¬ A, A × B, A ⊎ B, A → B
+--   as?                              the decision of an equivalent statement
+--   each?, pairs?, once?             of each element of a list, of each earlier and later one, that none stands twice
 use mathlib.Core.Path.{_≡_, refl, sym, subst}
 use mathlib.Core.List.{List, [], _∷_, List·Memᴰ·head, List·Memᴰ·tail, List·Memᴰ·not-nil, List·Memᴰ·cases-cons}
 use mathlib.Core.Logic.{_⊎_, inl, inr}
 use mathlib.Core.Option.{Option, none, some}
-use Rattle.groebner.specs.Polynomials.{_∈_}
-use Rattle.groebner.specs.Lines.{Once, Before}
+use Rattle.lists.specs.Lists.{_∈_, Once}
+use Rattle.lists.specs.Pairs.{Before}
 
 -- The decision is yes.
-abbrev pub Holds : {A : Type 0} → Dec A → Type 0
-Holds (yes a) = Unit
-Holds (no n) = ⊥
+abbrev pub HoldsTrue : {A : Type 0} → Dec A → Type 0
+HoldsTrue (yes a) = Unit
+HoldsTrue (no n) = ⊥
 
-pub decided : {A : Type 0} (d : Dec A) → Holds d → A
+pub decided : {A : Type 0} (d : Dec A) → HoldsTrue d → A
 decided (yes a) h = a
 decided (no n) h = absurd h
 
 -- The search has found something.
-abbrev pub Found : {A : Type 0} → Option A → Type 0
-Found none = ⊥
-Found (some a) = Unit
+abbrev pub Decided : {A : Type 0} → Option A → Type 0
+Decided none = ⊥
+Decided (some a) = Unit
 
-pub found : {A : Type 0} (o : Option A) → Found o → A
-found none h = absurd h
-found (some a) h = a
+pub decided-found : {A : Type 0} (o : Option A) → Decided o → A
+decided-found none h = absurd h
+decided-found (some a) h = a
 
 unfoldable pub not? : {A : Type 0} → Dec A → Dec (¬ A)
 not? (yes a) = no (λ n. n a)

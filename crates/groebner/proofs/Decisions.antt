@@ -8,8 +8,9 @@ use mathlib.Core.Logic.{⊎-elim, by-cases}
 use Prim.Native.Nat.{ℕ, zero, suc, _<_}
 use native.Mathlib.Decide.{ℕ-discrete}
 use native.Mathlib.Omega.{arith}
-use Rattle.groebner.specs.Polynomials.{_∈_}
-use Rattle.groebner.specs.Standard.{Finite, Lists}
+use Rattle.lists.specs.Lists.{_∈_}
+use Rattle.groebner.specs.Standard.{Finite}
+use Rattle.groebner.specs.Conversions.{Lists}
 use Rattle.groebner.proofs.Members.{member?}
 
 unfoldable pub among? : {A : Type 0} {P : A → Type 0} → ((x : A) → Dec (P x)) → (l : List A) → Dec ((x : A) × (x ∈ l) × P x)

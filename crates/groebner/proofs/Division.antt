@@ -1,7 +1,7 @@
 -- The remainder as document 01 words it: one exists, any two are equal, and it is the normal form.
---   Place G             the lines of G
---   Top, scan           the greatest term of a polynomial whose monomial has a property
---   First, look         the earliest line that divides a monomial
+--   LinePlace G             the lines of G
+--   Top, scan               the greatest term of a polynomial whose monomial has a property
+--   FirstLine, look         the earliest line that divides a monomial
 --   rewriting 𝓟 ord G low   the lines as a rewriting system, whose choice is the earliest line
 -- Remainders: remainder (existence), remainder-unique, remainder-equal, remainder-NF, remainder-proper, remainder-finished
 -- Lines and their multiples: reducible?, earliest-in, earliest-unique, vanishes, finished-irreducible, shift-below, coef-lead, coef-above
@@ -9,21 +9,25 @@ use mathlib.Core.Path.{_≡_, refl, sym, _∙_, ap, ap₂, subst}
 use mathlib.Core.List.{List, [], _∷_, List·Memᴰ·head, List·Memᴰ·tail, List·Memᴰ·not-nil, List·Memᴰ·cases-cons}
 use mathlib.Core.Logic.{_⊎_, inl, inr}
 use mathlib.Core.WellFounded.{WellFounded·induction}
-use Rattle.residue.specs.Field.{Arithmetic, Field}
-use Rattle.monomial.specs.Ordering.{Monomials, Divides, MonomialOrder}
-use Rattle.groebner.specs.Polynomials.{_∈_, Poly, All, all-cons, Polynomial, Equal, Same, coef, relabel, scale, minus, shift}
-use Rattle.groebner.specs.Lines.{Line, polynomial, Reducible, Earliest, Low}
-use Rattle.groebner.specs.Remainders.{Finished, Step, Remainder, done, step}
+use Rattle.lists.specs.Lists.{_∈_}
+use Rattle.residue.specs.Field.{Arithmetic}
+use Rattle.residue.specs.RingLaws.{Field}
+use Rattle.monomial.specs.Ordering.{Monomials, Divides}
+use Rattle.monomial.specs.OrderLaws.{MonomialOrder}
+use Rattle.monomial.proofs.AnyOrder.{irreflexive, asymmetric}
+use Rattle.groebner.specs.Polynomials.{Poly, All, all-cons, Polynomial, Equal, Same, coef, relabel, scale, minus, shift}
+use Rattle.groebner.specs.Lines.{Line, polynomial, Reducible, Earliest}
+use Rattle.groebner.specs.Criteria.{Low}
+use Rattle.groebner.specs.Remainders.{Normal, Step, Remainder, done, step}
 use Rattle.groebner.proofs.Modules.{self, mul-zero, opposite-null}
 use Rattle.groebner.proofs.Linear.{all-map, all-relabel, lin, lin-append, lin-scale, lin-negate, lin-same}
 use Rattle.groebner.proofs.Terms.{all-of, find, coef-here, coef-absent, coef-scale, coef-minus, coef-of-term, no-term, equal-of-same, same-of-equal, clean, clean-proper, clean-same}
-use Rattle.groebner.proofs.NormalForms.{Pick, found, stuck, Rewriting, line, multiple, nfc, NF, NF-coef, NF-fixed, Irreducible, chosen}
-use Rattle.monomial.proofs.AnyOrder.{irreflexive, asymmetric}
+use Rattle.groebner.proofs.NormalForms.{Pick, found, stuck, Rewriting, rule, ruleMultiple, nfc, NF, NF-coef, NF-fixed, Irreducible, chosen-vanishes}
 use Rattle.groebner.proofs.Ground.{PolynomialRing, cancel-right}
 
 -- The lines of a list.
-abbrev pub Place : {F M : Type 0} → List (Line F M) → Type 0
-Place {F} {M} G = (g : Line F M) × (g ∈ G)
+abbrev pub LinePlace : {F M : Type 0} → List (Line F M) → Type 0
+LinePlace {F} {M} G = (g : Line F M) × (g ∈ G)
 
 module _ {F M : Type 0} {𝓜 : Monomials M} {lt : M → M → Type 0} (ord : MonomialOrder 𝓜 lt) (P : M → Type 0) (P? : (m : M) → Dec (P m)) where
   -- The greatest term whose monomial has P, if there is one.
@@ -65,15 +69,15 @@ module _ {F M : Type 0} {R : Arithmetic F} {𝓜 : Monomials M} {lt : M → M �
   open Field field using (ring, decide)
 
   -- The earliest line that divides m, if there is one.
-  pub data First (G : List (Line F M)) (m : M) : Type 0 where
-    first : (g : Line F M) → Earliest 𝓜 m g G → (g ∈ G) → Divides 𝓜 (g .0) m → First G m
-    nothing : ((g : Line F M) → g ∈ G → ¬ Divides 𝓜 (g .0) m) → First G m
+  pub data FirstLine (G : List (Line F M)) (m : M) : Type 0 where
+    first : (g : Line F M) → Earliest 𝓜 m g G → (g ∈ G) → Divides 𝓜 (g .0) m → FirstLine G m
+    nothing : ((g : Line F M) → g ∈ G → ¬ Divides 𝓜 (g .0) m) → FirstLine G m
 
-  pub look : (G : List (Line F M)) (m : M) → First G m
+  pub look : (G : List (Line F M)) (m : M) → FirstLine G m
   look [] m = nothing (λ g h. absurd (List·Memᴰ·not-nil h))
   look (h ∷ G) m = go (monoid .divides? (h .0) m) (look G m)
     where
-      go : Dec (Divides 𝓜 (h .0) m) → First G m → First (h ∷ G) m
+      go : Dec (Divides 𝓜 (h .0) m) → FirstLine G m → FirstLine (h ∷ G) m
       go (yes d) r = first h (inl (refl, d)) (List·Memᴰ·head refl) d
       go (no n) (first g e p d) = first g (inr (n, e)) (List·Memᴰ·tail p) d
       go (no n) (nothing z) = nothing (λ g p. other g (List·Memᴰ·cases-cons p))
@@ -95,12 +99,12 @@ module _ {F M : Type 0} {R : Arithmetic F} {𝓜 : Monomials M} {lt : M → M �
   earliest-in (x ∷ G) m g (inr p) = List·Memᴰ·tail (earliest-in G m g (p .1))
 
   module _ (G : List (Line F M)) (low : Low lt G) where
-    abbrev pick : (m : M) → First G m → Pick {I = Place G} prod (λ i. i .0 .0) m
+    abbrev pick : (m : M) → FirstLine G m → Pick {I = LinePlace G} prod (λ i. i .0 .0) m
     pick m (first g e p d) = found (g, p) (d .0) (d .1)
     pick m (nothing z) = stuck (λ i u e. z (i .0) (i .1) (u, e))
 
     -- The lines as a reduction system.
-    abbrev pub rewriting : Rewriting R 𝓜 (Place G)
+    abbrev pub rewriting : Rewriting R 𝓜 (LinePlace G)
     rewriting = record {
       ring = ring;
       monoid = monoid;
@@ -116,19 +120,19 @@ module _ {F M : Type 0} {R : Arithmetic F} {𝓜 : Monomials M} {lt : M → M �
     pub reducible? : (m : M) → Dec (Reducible 𝓜 G m)
     reducible? m = go (look G m)
       where
-        go : First G m → Dec (Reducible 𝓜 G m)
+        go : FirstLine G m → Dec (Reducible 𝓜 G m)
         go (first g e p d) = yes (g, p, d)
         go (nothing z) = no (λ r. z (r .0) (r .1) (r .2))
 
     -- A multiple of the earliest line vanishes under the normal form.
     pub vanishes : (k m : M) (g : Line F M) (u : M) → Earliest 𝓜 m g G → m ≡ prod u (g .0) → lin (self ring) (nfc rewriting k) (shift 𝓜 u (polynomial R g)) ≡ 𝟘
-    unfolding polynomial multiple line
+    unfolding polynomial ruleMultiple rule
     vanishes k m g u e q = go (look G m) refl
       where
-        go : (p : First G m) → look G m ≡ p → lin (self ring) (nfc rewriting k) (relabel (prod u) ((𝟙, g .0) ∷ g .1)) ≡ 𝟘
+        go : (p : FirstLine G m) → look G m ≡ p → lin (self ring) (nfc rewriting k) (relabel (prod u) ((𝟙, g .0) ∷ g .1)) ≡ 𝟘
         go (first h e′ p d) r = ap₂ (λ (h : Line F M) v. lin (self ring) (nfc rewriting k) (relabel (prod v) ((𝟙, h .0) ∷ h .1))) same
             (cancel-right monoid ord u (d .0) (g .0) (sym q ∙ d .1 ∙ ap (λ (h : Line F M). prod (d .0) (h .0)) (sym same)))
-            ∙ chosen rewriting k m (h, p) (d .0) (d .1) (ap (pick m) r)
+            ∙ chosen-vanishes rewriting k m (h, p) (d .0) (d .1) (ap (pick m) r)
           where
             same : g ≡ h
             same = earliest-unique G m g h e e′
@@ -140,7 +144,7 @@ module _ {F M : Type 0} {R : Arithmetic F} {𝓜 : Monomials M} {lt : M → M �
         ∙ ap (add _) (lin-negate (self ring) (nfc rewriting k) _ ∙ ap neg (lin-scale (self ring) (nfc rewriting k) (s .c) _
         ∙ ap (mul (s .c)) (vanishes k (s .m) (s .g) (s .u) (s .earliest) (s .quotient)) ∙ mul-zero ring (s .c)) ∙ opposite-null (self ring)) ∙ ring .add-zero _ ∙ sym (NF-coef rewriting f k)
 
-    pub finished-irreducible : (f : Poly F M) → Finished 𝓜 G f → All (Irreducible rewriting) f
+    pub finished-irreducible : (f : Poly F M) → Normal 𝓜 G f → All (Irreducible rewriting) f
     finished-irreducible f h = all-of f (λ c m p i u e. h c m p (i .0, i .1, (u, e)))
 
     -- The remainder is the normal form.
@@ -152,7 +156,7 @@ module _ {F M : Type 0} {R : Arithmetic F} {𝓜 : Monomials M} {lt : M → M �
     remainder-proper p (done h) = p
     remainder-proper p (step s r) = remainder-proper (s .proper) r
 
-    pub remainder-finished : {f r : Poly F M} → Remainder R 𝓜 lt G f r → Finished 𝓜 G r
+    pub remainder-finished : {f r : Poly F M} → Remainder R 𝓜 lt G f r → Normal 𝓜 G r
     remainder-finished (done h) = h
     remainder-finished (step s r) = remainder-finished r
 
@@ -184,7 +188,7 @@ module _ {F M : Type 0} {R : Arithmetic F} {𝓜 : Monomials M} {lt : M → M �
         → (f′ : Poly F M) × Step R 𝓜 lt G f f′ × ((d : F) (k : M) → (d, k) ∈ f′ → Reducible 𝓜 G k → lt k m)
     advance f p c m t r h = go (look G m)
       where
-        go : First G m → (f′ : Poly F M) × Step R 𝓜 lt G f f′ × ((d : F) (k : M) → (d, k) ∈ f′ → Reducible 𝓜 G k → lt k m)
+        go : FirstLine G m → (f′ : Poly F M) × Step R 𝓜 lt G f f′ × ((d : F) (k : M) → (d, k) ∈ f′ → Reducible 𝓜 G k → lt k m)
         go (nothing z) = absurd (z (r .0) (r .1) (r .2))
         go (first g e q d) = (
           f′,

@@ -6,14 +6,16 @@
 --   dot-none       where v is 0 below d, it is 0
 --   dot-only       where v is 1 at s and 0 elsewhere below d, it is w(s)
 --   dot-assoc      a double sum, either way round
+--   zero-mul       a product with 0
 use mathlib.Core.Path.{_≡_, refl, sym, _∙_, ap, ap₂}
 use mathlib.Core.Logic.{by-cases}
 use Prim.Native.Nat.{ℕ, zero, suc, _<_}
 use native.Mathlib.Decide.{ℕ-discrete}
 use native.Mathlib.Omega.{arith}
-use Rattle.residue.specs.Field.{Arithmetic, Ring}
-use Rattle.groebner.proofs.Modules.{self, plus-medial, zero-add, mul-zero}
+use Rattle.residue.specs.Field.{Arithmetic}
+use Rattle.residue.specs.RingLaws.{Ring}
 use Rattle.groebner.specs.MultiplicationRows.{dot}
+use Rattle.groebner.proofs.Modules.{self, plus-medial, zero-add, mul-zero}
 
 module _ {F : Type 0} {R : Arithmetic F} (ring : Ring R) where
   open Arithmetic R using (zero as 𝟘, one as 𝟙, add, mul)
@@ -38,7 +40,7 @@ module _ {F : Type 0} {R : Arithmetic F} (ring : Ring R) where
   dot-mul zero c v w = sym (mul-zero ring c)
   dot-mul (suc d) c v w = ap₂ add (ring .mul-assoc c (v d) (w d)) (dot-mul d c v w) ∙ sym (ring .mul-add c _ _)
 
-  zero-mul : {c : F} → c ≡ 𝟘 → (a : F) → mul c a ≡ 𝟘
+  pub zero-mul : {c : F} → c ≡ 𝟘 → (a : F) → mul c a ≡ 𝟘
   zero-mul {c} z a = ring .mul-comm c a ∙ ap (mul a) z ∙ mul-zero ring a
 
   pub dot-none : (d : ℕ) (v w : ℕ → F) → ((k : ℕ) → k < d → v k ≡ 𝟘) → dot R d v w ≡ 𝟘

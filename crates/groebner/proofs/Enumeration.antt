@@ -1,24 +1,24 @@
 -- The FGLM enumeration as a function, for any monomial ordering with a successor function.
 -- Monomials are visited in rising order from 1, without the multiples of leading monomials found before (document 01; 001, 002). One whose
 -- image depends on those of the standard monomials found before makes a line; any other is a standard monomial.
---   Progress n E               the state of the elimination, the lines and the standard monomials found so far
---   visited n E p              how many monomials are visited so far
---   extend n E p m a           p with the elimination's answer a to m
---   visit n E p m              p after a visit to m
---   begin n E                  nothing is found
---   after n E next p m         the monomial to visit after m
---   run n E next fuel p m      the visits from m on, at most fuel of them
---   ToVisit n E lt p m         what is known before a visit to m
---   Visited n E lt p m         what is known after it
---   Complete n E lt p          what is known at the end
---   Proceeds n E lt p x        what is known where x is the next to visit, or none is left
---   standard-few               at the end there are at most D standard monomials
---   to-visit-divisors, to-visit-exponents, to-visit-few, to-visit-lines     consequences of ToVisit
---   begin-to-visit             the enumeration begins with a visit to 1
---   visit-visited              a visit does what it should
---   visit-proceeds             and then the next monomial is to be visited, or none is left
---   run-ends                   from each visit on the enumeration ends
---   enumeration                it ends after at most 1 + n·D visits; EnumerationResult says what it has found
+--   Progress n E                                                          the state of the elimination, the lines and the standard monomials found so far
+--   visited n E p                                                         how many monomials are visited so far
+--   extend n E p m a                                                      p with the elimination's answer a to m
+--   visit n E p m                                                         p after a visit to m
+--   begin n E                                                             nothing is found
+--   afterVisit n E next p m                                               the monomial to visit after m
+--   runFrom n E next fuel p m                                             the visits from m on, at most fuel of them
+--   ToVisit n E lt p m                                                    what is known before a visit to m
+--   Visited n E lt p m                                                    what is known after it
+--   Complete n E lt p                                                     what is known at the end
+--   Proceeds n E lt p x                                                   what is known where x is the next to visit, or none is left
+--   standard-few                                                          at the end there are at most D standard monomials
+--   to-visit-divisors, to-visit-exponents, to-visit-few, to-visit-lines   consequences of ToVisit
+--   begin-to-visit                                                        the enumeration begins with a visit to 1
+--   visit-visited                                                         a visit does what it should
+--   visit-proceeds                                                        and then the next monomial is to be visited, or none is left
+--   run-ends                                                              from each visit on the enumeration ends
+--   enumeration                                                           it ends after at most 1 + n·D visits; EnumerationResult says what it has found
 use mathlib.Core.Path.{_≡_, refl}
 use mathlib.Core.Bool.{Bool}
 use mathlib.Core.List.{List, [], _∷_, _++_, List·Memᴰ·not-nil}
@@ -30,14 +30,15 @@ use native.Mathlib.Omega.{arith}
 use lib.ListN.{length, length-append}
 use Rattle.residue.specs.Field.{Arithmetic}
 use Rattle.monomial.specs.Rows.{Row, one, exponent}
-use Rattle.monomial.specs.Ordering.{MonomialOrder, rows}
+use Rattle.monomial.specs.Ordering.{monomials}
+use Rattle.monomial.specs.OrderLaws.{MonomialOrder}
 use Rattle.monomial.proofs.AnyOrder.{one-least}
 use Rattle.monomial.proofs.Products.{rows-laws}
 use Rattle.groebner.specs.Polynomials.{Poly, negate}
 use Rattle.groebner.specs.Lines.{Line, Reducible}
 use Rattle.groebner.proofs.Modules.{Module}
 use Rattle.groebner.proofs.Spans.{Shifts}
-use Rattle.groebner.proofs.Elimination.{Added, Elimination}
+use Rattle.groebner.proofs.Elimination.{AddedVector, Elimination}
 use Rattle.groebner.proofs.Counting.{Divisors, exponent-bounded, bound-monotone}
 use Rattle.groebner.proofs.Successors.{Successor, Successors, UpTo}
 use Rattle.groebner.proofs.ReducibleTest.{reducible, irreducible-iff, reducible-closed}
@@ -73,20 +74,20 @@ module _ {F : Type 0} {R : Arithmetic F} (n : ℕ) {W : Type 0} {𝓥 : Module R
 
   module _ (next : (Row n → Bool) → Row n → Option (Row n)) where
     -- The monomial to visit after m.
-    abbrev pub after : Progress → Row n → Option (Row n)
-    after p m = next (reducible n (visit p m .lines)) m
+    abbrev pub afterVisit : Progress → Row n → Option (Row n)
+    afterVisit p m = next (reducible n (visit p m .lines)) m
 
     -- From m on, with at most that many visits.
-    unfoldable pub run : ℕ → Progress → Row n → Option Progress
+    unfoldable pub runFrom : ℕ → Progress → Row n → Option Progress
     unfolding visit reducible
-    run zero p m = none
-    run (suc fuel) p m = let q = visit p m in elim (next (reducible n (q .lines)) m) [ none ↦ some q | some r ↦ run fuel q r ]
+    runFrom zero p m = none
+    runFrom (suc fuel) p m = let q = visit p m in elim (next (reducible n (q .lines)) m) [ none ↦ some q | some r ↦ runFrom fuel q r ]
 
   module _ (lt : Row n → Row n → Type 0) where
     -- m is to be visited: all smaller monomials are seen, and no leading monomial divides m.
     pub record ToVisit (p : Progress) (m : Row n) : Type 0 where
       pub seen : SeenBelow n 𝓥 L lt m (p .lines) (p .standard)
-      pub free : ¬ Reducible (rows n) (p .lines) m
+      pub free : ¬ Reducible (monomials n) (p .lines) m
       pub holds : Holds (p .state) (p .standard)
 
     -- m is visited: it and all smaller monomials are seen.
@@ -108,7 +109,7 @@ module _ {F : Type 0} {R : Arithmetic F} (n : ℕ) {W : Type 0} {𝓥 : Module R
     pub standard-few : (p : Progress) → Complete p → length (p .standard) ≤ D
     standard-few p c = room (p .state) (p .standard) (c .holds)
 
-  module _ {lt : Row n → Row n → Type 0} (ord : MonomialOrder (rows n) lt) (shifts : Shifts 𝓥 L (rows n)) where
+  module _ {lt : Row n → Row n → Type 0} (ord : MonomialOrder (monomials n) lt) (shifts : Shifts 𝓥 L (monomials n)) where
     -- What is known of the next monomial to visit.
     module _ (p : Progress) (m : Row n) (v : ToVisit lt p m) where
       -- Its proper divisors are standard monomials found before.
@@ -132,7 +133,7 @@ module _ {F : Type 0} {R : Arithmetic F} (n : ℕ) {W : Type 0} {𝓥 : Module R
     unfolding visit extend
     visit-visited p m v = at (add (p .state) (p .standard) m) (add-holds (p .state) (p .standard) m (v .holds))
       where
-        at : (a : Poly F (Row n) ⊎ State) → Added 𝓥 L Holds (p .standard) m a → Visited lt (extend p m a) m × (visited (extend p m a) ≡ suc (visited p))
+        at : (a : Poly F (Row n) ⊎ State) → AddedVector 𝓥 L Holds (p .standard) m a → Visited lt (extend p m a) m × (visited (extend p m a) ≡ suc (visited p))
         at (inl f) h = (
           record { seen = seen-line n 𝓥 L lt m (p .lines) (p .standard) (v .seen) (to-visit-divisors p m v) f (h .0) (h .1); holds = v .holds },
           omega (arith, length-append (p .lines) ((m, negate R f) ∷ [])),
@@ -143,7 +144,7 @@ module _ {F : Type 0} {R : Arithmetic F} (n : ℕ) {W : Type 0} {𝓥 : Module R
         )
 
     pub begin-to-visit : ToVisit lt begin (one n)
-    unfolding rows
+    unfolding monomials
     begin-to-visit = record {
       seen = record {
         cover = λ k l. absurd (one-least (rows-laws n) ord k l);
@@ -156,9 +157,9 @@ module _ {F : Type 0} {R : Arithmetic F} (n : ℕ) {W : Type 0} {𝓥 : Module R
       holds = start-holds;
     }
 
-    module _ (next : (Row n → Bool) → Row n → Option (Row n)) (successors : Successors (rows n) lt next) where
-      pub visit-proceeds : (p : Progress) (m : Row n) → ToVisit lt p m → Proceeds lt (visit p m) (after next p m)
-      visit-proceeds p m v = at (after next p m) (successors (reducible n G) (reducible-closed n G) m)
+    module _ (next : (Row n → Bool) → Row n → Option (Row n)) (successors : Successors (monomials n) lt next) where
+      pub visit-proceeds : (p : Progress) (m : Row n) → ToVisit lt p m → Proceeds lt (visit p m) (afterVisit next p m)
+      visit-proceeds p m v = at (afterVisit next p m) (successors (reducible n G) (reducible-closed n G) m)
         where
           G : List (Line F (Row n))
           G = visit p m .lines
@@ -170,17 +171,17 @@ module _ {F : Type 0} {R : Arithmetic F} (n : ℕ) {W : Type 0} {𝓥 : Module R
           at none s = record { seen = seen-onward n 𝓥 L ord m G (visit p m .standard) (w .seen) none s; holds = w .holds }
           at (some r) s = record { seen = seen-onward n 𝓥 L ord m G (visit p m .standard) (w .seen) (some r) s; free = irreducible-iff n G r .0 (s .1); holds = w .holds }
 
-      pub run-ends : (fuel : ℕ) (p : Progress) (m : Row n) → ToVisit lt p m → n * D < visited p + fuel → (q : Progress) × (run next fuel p m ≡ some q) × Complete lt q
-      unfolding run
+      pub run-ends : (fuel : ℕ) (p : Progress) (m : Row n) → ToVisit lt p m → n * D < visited p + fuel → (q : Progress) × (runFrom next fuel p m ≡ some q) × Complete lt q
+      unfolding runFrom
       run-ends zero p m v l = absurd (omega (arith, to-visit-few p m v))
-      run-ends (suc fuel) p m v l = at (after next p m) (visit-proceeds p m v) (run-ends fuel (visit p m))
+      run-ends (suc fuel) p m v l = at (afterVisit next p m) (visit-proceeds p m v) (run-ends fuel (visit p m))
         where
           at : (x : Option (Row n)) → Proceeds lt (visit p m) x
-              → ((r : Row n) → ToVisit lt (visit p m) r → n * D < visited (visit p m) + fuel → (q : Progress) × (run next fuel (visit p m) r ≡ some q) × Complete lt q)
-              → (q : Progress) × (elim x [ none ↦ some (visit p m) | some r ↦ run next fuel (visit p m) r ] ≡ some q) × Complete lt q
+              → ((r : Row n) → ToVisit lt (visit p m) r → n * D < visited (visit p m) + fuel → (q : Progress) × (runFrom next fuel (visit p m) r ≡ some q) × Complete lt q)
+              → (q : Progress) × (elim x [ none ↦ some (visit p m) | some r ↦ runFrom next fuel (visit p m) r ] ≡ some q) × Complete lt q
           at none c rest = (visit p m, refl, c)
           at (some r) w rest = rest r w (omega (arith, visit-visited p m v .1))
 
       -- The enumeration ends, after at most 1 + n·D visits.
-      pub enumeration : (q : Progress) × (run next (1 + n * D) begin (one n) ≡ some q) × Complete lt q
+      pub enumeration : (q : Progress) × (runFrom next (1 + n * D) begin (one n) ≡ some q) × Complete lt q
       enumeration = run-ends (1 + n * D) begin (one n) begin-to-visit (omega arith)

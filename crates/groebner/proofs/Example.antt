@@ -16,7 +16,7 @@ use Rattle.residue.specs.Prime.{Prime}
 use Rattle.residue.specs.Field.{Arithmetic, ZMod, modulo}
 use Rattle.monomial.specs.Rows.{Row}
 use Rattle.monomial.specs.Orders.{variables}
-use Rattle.monomial.specs.Ordering.{rows, Lex, Grevlex}
+use Rattle.monomial.specs.Ordering.{monomials, Lex, Grevlex}
 use Rattle.groebner.specs.Polynomials.{Poly}
 use Rattle.groebner.specs.Lines.{Line}
 use Rattle.groebner.proofs.Ground.{PolynomialRing}
@@ -41,7 +41,7 @@ R = modulo 3 (three .above-one)
 abbrev pub M : Type 0
 M = Row 2
 
-abbrev pub 𝓟 : PolynomialRing R (rows 2)
+abbrev pub 𝓟 : PolynomialRing R (monomials 2)
 𝓟 = ground 3 three 2
 
 abbrev pub Grevlex₂ : M → M → Type 0
@@ -50,11 +50,11 @@ Grevlex₂ = Grevlex 2
 abbrev pub Lex₂ : M → M → Type 0
 Lex₂ = Lex 2 (variables 2)
 
-unfoldable pub in-grevlex : Deciders R (rows 2) Grevlex₂
+unfoldable pub in-grevlex : Deciders R (monomials 2) Grevlex₂
 unfolding by-grevlex
 in-grevlex = by-grevlex 3 three 2
 
-unfoldable pub in-lex : Deciders R (rows 2) Lex₂
+unfoldable pub in-lex : Deciders R (monomials 2) Lex₂
 unfolding by-lex variables
 in-lex = by-lex 3 three 2 (variables 2)
 

@@ -1,20 +1,19 @@
 -- Monomials with some of their exponents changed.
 --   Lowered n m             m is x_v·d for some v and d
 -- Exponents of withExponent: with-same, with-zero, with-other
--- Of raise: raise-same, raise-other (its exponents), raise-product (it is a product), divides-raise, raise-proper (m is a proper divisor of x_v·m)
+-- Of raise: raise-same, raise-other (its exponents), divides-raise, raise-proper (m is a proper divisor of x_v·m)
 -- Exponents of clear: clear-in, clear-out
 -- lowered: every monomial is 1 or some x_v·d
-use mathlib.Core.Path.{_≡_, refl, sym, _∙_, ap, ap₂}
+use mathlib.Core.Path.{_≡_, refl, _∙_, ap, ap₂}
 use mathlib.Core.List.{List, [], _∷_, List·Memᴰ·head, List·Memᴰ·tail, List·Memᴰ·not-nil, List·Memᴰ·cases-cons}
 use mathlib.Core.Logic.{_⊎_, inl, inr}
 use Prim.Native.Nat.{ℕ, zero, suc, _≤_, _<_}
 use native.Mathlib.Decide.{ℕ-discrete}
 use native.Mathlib.Omega.{arith}
-use Rattle.monomial.specs.Rows.{Row, exponent, one, product}
-use Rattle.monomial.specs.Ordering.{Divides, rows}
-use Rattle.monomial.proofs.Products.{one-product, divisible-at}
-use Rattle.groebner.specs.Polynomials.{_∈_}
-use Rattle.groebner.specs.Standard.{power}
+use Rattle.lists.specs.Lists.{_∈_}
+use Rattle.monomial.specs.Rows.{Row, exponent, one}
+use Rattle.monomial.specs.Ordering.{Divides, monomials}
+use Rattle.monomial.proofs.Products.{divisible-at}
 use Rattle.groebner.specs.Next.{withExponent, raise, clear}
 
 pub with-same : (n v e : ℕ) (m : Row n) → v < n → exponent n (withExponent n v e m) v ≡ e
@@ -46,7 +45,7 @@ module _ (n v : ℕ) (m : Row n) where
   unfolding raise
   raise-other i h = with-other n v _ m i h
 
-  pub divides-raise : v < n → Divides (rows n) m (raise n v m)
+  pub divides-raise : v < n → Divides (monomials n) m (raise n v m)
   divides-raise l = divisible-at n m (raise n v m) .1 (λ i _. at i (ℕ-discrete i v))
     where
       at : (i : ℕ) → Dec (i ≡ v) → exponent n m i ≤ exponent n (raise n v m) i
@@ -55,12 +54,6 @@ module _ (n v : ℕ) (m : Row n) where
 
   pub raise-proper : v < n → ¬ (m ≡ raise n v m)
   raise-proper l e = omega (arith, raise-same l, ap (λ a. exponent n a v) e)
-
-pub raise-product : (n v : ℕ) (m : Row n) → raise n v m ≡ product n (power n v 1) m
-unfolding raise withExponent exponent product
-raise-product zero v m = refl
-raise-product (suc n) zero m = ap₂ (λ x y. (x, y)) (omega arith) (sym (one-product n (m .1)))
-raise-product (suc n) (suc v) m = ap₂ (λ x y. (x, y)) (omega arith) (raise-product n v (m .1))
 
 module _ (n : ℕ) (m : Row n) where
   pub clear-in : (s : List ℕ) (i : ℕ) → i ∈ s → exponent n (clear n s m) i ≡ 0

@@ -1,26 +1,30 @@
 -- Steps of the division, and what they say of Groebner bases.
 --   Head f              the leading monomial of a polynomial, or that it is zero; head-of
 --   Trace bound f r     f as the sum of the multiples that were subtracted, all below a bound, and its remainder; trace
--- Of steps: step-value, step-above, step-inside, remainder-bound, leading-kept
+-- Of steps: step-value, step-above, step-inside, leading-kept
 -- Of any lines: remainder-member (T2: a polynomial and its remainder differ by an element of the ideal), member-remainder, ideal-of-zero, zero-remainder
 -- Of a Groebner basis: zero-of-finished, groebner-zero (T4: elements of the ideal have remainder zero), groebner-NF
 -- groebner-of-zero: lines under which every element of the ideal has remainder zero are a Groebner basis
 use mathlib.Core.Path.{_≡_, refl, sym, _∙_, ap, ap₂, subst}
 use mathlib.Core.List.{List, [], _∷_, List·Memᴰ·head}
 use mathlib.Core.Logic.{_⊎_, inl, inr}
-use Rattle.residue.specs.Field.{Arithmetic, Field}
-use Rattle.monomial.specs.Ordering.{Monomials, MonomialOrder}
+use Rattle.lists.specs.Lists.{_∈_}
+use Rattle.residue.specs.Field.{Arithmetic}
+use Rattle.residue.specs.RingLaws.{Field}
+use Rattle.monomial.specs.Ordering.{Monomials}
+use Rattle.monomial.specs.OrderLaws.{MonomialOrder}
 use Rattle.monomial.proofs.AnyOrder.{irreflexive, asymmetric}
-use Rattle.groebner.specs.Polynomials.{_∈_, Poly, All, all-nil, all-cons, Polynomial, scale, shift, coef, Same}
-use Rattle.groebner.specs.Lines.{Line, polynomial, Reducible, Low}
-use Rattle.groebner.specs.Remainders.{Finished, Step, Remainder, done, step}
+use Rattle.groebner.specs.Polynomials.{Poly, All, all-nil, all-cons, Polynomial, scale, shift, coef, Same}
+use Rattle.groebner.specs.Lines.{Line, polynomial, Reducible}
+use Rattle.groebner.specs.Criteria.{Low}
+use Rattle.groebner.specs.Remainders.{Normal, Step, Remainder, done, step}
 use Rattle.groebner.specs.Ideals.{IdealOf}
 use Rattle.groebner.specs.Bases.{Leading, Groebner}
 use Rattle.groebner.proofs.Modules.{self, zero-add, mul-zero, opposite-null, undo-difference, plus-around}
 use Rattle.groebner.proofs.Terms.{find, coef-nil, coef-absent, coef-minus, coef-scale, no-term, nil-of-zero, clean, clean-proper, clean-same}
-use Rattle.groebner.proofs.NormalForms.{Rewriting, line, multiple, combination, Member, member-add, member-neg, member-same, member-of-NF, NF, NF-same, residue}
+use Rattle.groebner.proofs.NormalForms.{Rewriting, rule, ruleMultiple, rulesCombined, Member, member-add, member-neg, member-same, member-of-NF, NF, NF-same, residue-member}
 use Rattle.groebner.proofs.Ground.{PolynomialRing}
-use Rattle.groebner.proofs.Division.{Top, top, flat, scan, Place, rewriting, reducible?, earliest-in, coef-above, remainder, remainder-NF, remainder-proper, remainder-finished}
+use Rattle.groebner.proofs.Division.{Top, top, flat, scan, LinePlace, rewriting, reducible?, earliest-in, coef-above, remainder, remainder-NF, remainder-proper, remainder-finished}
 use Rattle.groebner.proofs.Ideals.{ideal-same, member-of-ideal, ideal-of-member, coef-combination-nil, coef-combination-cons}
 
 module _ {F M : Type 0} {R : Arithmetic F} {𝓜 : Monomials M} {lt : M → M → Type 0} (𝓟 : PolynomialRing R 𝓜) (ord : MonomialOrder 𝓜 lt) (G : List (Line F M)) (low : Low lt G) where
@@ -29,7 +33,7 @@ module _ {F M : Type 0} {R : Arithmetic F} {𝓜 : Monomials M} {lt : M → M �
   open PolynomialRing 𝓟 using (field, monoid)
   open Field field using (ring, decide)
 
-  abbrev S : Rewriting R 𝓜 (Place G)
+  abbrev S : Rewriting R 𝓜 (LinePlace G)
   S = rewriting 𝓟 ord G low
 
   -- The greatest monomial of a polynomial that is not zero.
@@ -57,7 +61,7 @@ module _ {F M : Type 0} {R : Arithmetic F} {𝓜 : Monomials M} {lt : M → M �
           off k w (inr a) = coef-absent ring 𝓜 f k a
 
   -- An element of the ideal of a Groebner basis without reducible term is zero.
-  pub zero-of-finished : Groebner R 𝓜 lt G → (f : Poly F M) → Polynomial R f → IdealOf R 𝓜 G f → Finished 𝓜 G f → f ≡ []
+  pub zero-of-finished : Groebner R 𝓜 lt G → (f : Poly F M) → Polynomial R f → IdealOf R 𝓜 G f → Normal 𝓜 G f → f ≡ []
   zero-of-finished gb f p a h = go (head-of f p)
     where
       go : Head f → f ≡ []
@@ -66,7 +70,7 @@ module _ {F M : Type 0} {R : Arithmetic F} {𝓜 : Monomials M} {lt : M → M �
 
   -- A polynomial and its remainder differ by an element of the ideal.
   pub remainder-member : {f r : Poly F M} → Remainder R 𝓜 lt G f r → Member S (λ k. add (coef R 𝓜 f k) (neg (coef R 𝓜 r k)))
-  remainder-member {f} {r} q = member-same S _ _ (λ k. ap (λ x. add (coef R 𝓜 f k) (neg x)) (remainder-NF 𝓟 ord G low q k)) (residue S f)
+  remainder-member {f} {r} q = member-same S _ _ (λ k. ap (λ x. add (coef R 𝓜 f k) (neg x)) (remainder-NF 𝓟 ord G low q k)) (residue-member S f)
 
   pub member-remainder : {f r : Poly F M} → Remainder R 𝓜 lt G f r → Member S (coef R 𝓜 f) → Member S (coef R 𝓜 r)
   unfolding self
@@ -140,10 +144,10 @@ module _ {F M : Type 0} {R : Arithmetic F} {𝓜 : Monomials M} {lt : M → M �
   unfolding self
   regroup a b s r x p q = sym (plus-around (self ring) b a) ∙ ap (add b) (sym p ∙ q) ∙ sym (ring .add-assoc b s r)
 
-  coef-combination-step : {f f′ : Poly F M} (s : Step R 𝓜 lt G f f′) (c : Poly F (M × Place G)) (k : M)
-      → coef R 𝓜 (combination S ((s .c, (s .u, (s .g, place s))) ∷ c)) k ≡ add (mul (s .c) (coef R 𝓜 (shift 𝓜 (s .u) (polynomial R (s .g))) k)) (coef R 𝓜 (combination S c) k)
-  unfolding multiple line polynomial
-  coef-combination-step s c k = coef-combination-cons 𝓟 ord G low (s .c, (s .u, (s .g, place s))) c k ∙ ap₂ add (coef-scale ring 𝓜 (s .c) (multiple S (s .u) (s .g, place s)) k) refl
+  coef-combination-step : {f f′ : Poly F M} (s : Step R 𝓜 lt G f f′) (c : Poly F (M × LinePlace G)) (k : M)
+      → coef R 𝓜 (rulesCombined S ((s .c, (s .u, (s .g, place s))) ∷ c)) k ≡ add (mul (s .c) (coef R 𝓜 (shift 𝓜 (s .u) (polynomial R (s .g))) k)) (coef R 𝓜 (rulesCombined S c) k)
+  unfolding ruleMultiple rule polynomial
+  coef-combination-step s c k = coef-combination-cons 𝓟 ord G low (s .c, (s .u, (s .g, place s))) c k ∙ ap₂ add (coef-scale ring 𝓜 (s .c) (ruleMultiple S (s .u) (s .g, place s)) k) refl
 
   -- The division stays below what bounds f.
   step-inside : (bound : M) {f f′ : Poly F M} (s : Step R 𝓜 lt G f f′) → Polynomial R f → ((k : M) → ¬ lt k bound → coef R 𝓜 f k ≡ 𝟘) → lt (s .m) bound
@@ -165,15 +169,11 @@ module _ {F M : Type 0} {R : Arithmetic F} {𝓜 : Monomials M} {lt : M → M �
       over (inr (inl e)) = subst (lt (s .m)) (sym e) (step-inside bound s p b)
       over (inr (inr w)) = ord .trans (step-inside bound s p b) w
 
-  pub remainder-bound : (bound : M) {f r : Poly F M} → Remainder R 𝓜 lt G f r → Polynomial R f → ((k : M) → ¬ lt k bound → coef R 𝓜 f k ≡ 𝟘) → (k : M) → ¬ lt k bound → coef R 𝓜 r k ≡ 𝟘
-  remainder-bound bound (done h) p b = b
-  remainder-bound bound (step s q) p b = remainder-bound bound q (s .proper) (step-bound bound s p b)
-
   -- The division written out: f is the sum of the multiples that were subtracted, all below what bounds f, and its remainder.
   pub record Trace (bound : M) (f r : Poly F M) : Type 0 where
-    pub comb : Poly F (M × Place G)
+    pub comb : Poly F (M × LinePlace G)
     pub below : All (λ x. lt (prod (x .0) (x .1 .0 .0)) bound) comb
-    pub sum : (k : M) → coef R 𝓜 f k ≡ add (coef R 𝓜 (combination S comb) k) (coef R 𝓜 r k)
+    pub sum : (k : M) → coef R 𝓜 f k ≡ add (coef R 𝓜 (rulesCombined S comb) k) (coef R 𝓜 r k)
 
   pub trace : (bound : M) {f r : Poly F M} → Remainder R 𝓜 lt G f r → Polynomial R f → ((k : M) → ¬ lt k bound → coef R 𝓜 f k ≡ 𝟘) → Trace bound f r
   trace bound {f} (done h) p b = record { comb = []; below = all-nil; sum = λ k. sym (ap₂ add (coef-combination-nil 𝓟 ord G low k) refl ∙ zero-add ring _) }

@@ -6,8 +6,10 @@
 use mathlib.Core.Path.{_≡_, sym, _∙_, ap, subst}
 use mathlib.Core.Logic.{_⊎_, inl, inr}
 use mathlib.Core.WellFounded.{WellFounded·induction}
-use Rattle.residue.specs.Field.{Arithmetic, Field}
-use Rattle.monomial.specs.Ordering.{Monomials, Divides, MonomialLaws, MonomialOrder}
+use Rattle.residue.specs.Field.{Arithmetic}
+use Rattle.residue.specs.RingLaws.{Field}
+use Rattle.monomial.specs.Ordering.{Monomials, Divides}
+use Rattle.monomial.specs.OrderLaws.{MonomialLaws, MonomialOrder}
 use Rattle.monomial.proofs.AnyOrder.{cancel}
 
 -- A field of coefficients, and monomials with their laws.

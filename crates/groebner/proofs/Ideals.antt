@@ -1,19 +1,24 @@
 -- The ideal of 001 is the span of the monomial multiples of the lines.
 --   Ideals by definition 1.1 of 001: ideal-zero (i), ideal-add (ii), ideal-times (iii); generators: ideal-gen; ideal-same
 --   member-line, member-of-ideal, ideal-of-member: the ideal of the lines is that of their rewriting system
+--   coef-combination-nil, coef-combination-cons: the coefficients of a rulesCombined of their multiples
 use mathlib.Core.Path.{_≡_, refl, sym, _∙_, ap, ap₂, subst, fun-ext}
 use mathlib.Core.List.{List, [], _∷_, _++_, map, List·Memᴰ·head, List·Memᴰ·tail, Memᴰ·of-map, Memᴰ·map}
-use Rattle.residue.specs.Field.{Arithmetic, Ring, Field}
-use Rattle.monomial.specs.Ordering.{Monomials, MonomialOrder}
-use Rattle.groebner.specs.Polynomials.{_∈_, Poly, scale, expand, shift, times, δ, coef, Same}
-use Rattle.groebner.specs.Lines.{Line, polynomial, Low}
+use Rattle.lists.specs.Lists.{_∈_}
+use Rattle.residue.specs.Field.{Arithmetic}
+use Rattle.residue.specs.RingLaws.{Ring, Field}
+use Rattle.monomial.specs.Ordering.{Monomials}
+use Rattle.monomial.specs.OrderLaws.{MonomialOrder}
+use Rattle.groebner.specs.Polynomials.{Poly, scale, expand, shift, times, δ, coef, Same}
+use Rattle.groebner.specs.Lines.{Line, polynomial}
+use Rattle.groebner.specs.Criteria.{Low}
 use Rattle.groebner.specs.Ideals.{combine, Ideal, IdealOf}
 use Rattle.groebner.proofs.Modules.{self, plus-medial, zero-add}
 use Rattle.groebner.proofs.Linear.{all-true, lin, lin-append, coef-lin}
 use Rattle.groebner.proofs.Terms.{coef-nil, coef-append, coef-shift, coef-times}
-use Rattle.groebner.proofs.NormalForms.{Rewriting, line, multiple, combination, Member, member-zero, member-add, member-multiple, member-same, member-lin, member-shift}
+use Rattle.groebner.proofs.NormalForms.{Rewriting, rule, ruleMultiple, rulesCombined, Member, member-zero, member-add, member-multiple, member-same, member-lin, member-shift}
 use Rattle.groebner.proofs.Ground.{PolynomialRing}
-use Rattle.groebner.proofs.Division.{Place, rewriting}
+use Rattle.groebner.proofs.Division.{LinePlace, rewriting}
 
 -- Sums of cofactors.
 module _ {F M : Type 0} {R : Arithmetic F} (ring : Ring R) (𝓜 : Monomials M) where
@@ -63,11 +68,11 @@ module _ {F M : Type 0} {R : Arithmetic F} {𝓜 : Monomials M} {lt : M → M �
   open PolynomialRing 𝓟 using (field, monoid)
   open Field field using (ring)
 
-  abbrev S : Rewriting R 𝓜 (Place G)
+  abbrev S : Rewriting R 𝓜 (LinePlace G)
   S = rewriting 𝓟 ord G low
 
   pub member-line : (g : Line F M) → g ∈ G → Member S (coef R 𝓜 (polynomial R g))
-  unfolding multiple line polynomial
+  unfolding ruleMultiple rule polynomial
   member-line g p = member-same S _ _ (λ k. coef-lin ring 𝓜 ((𝟙, g .0) ∷ g .1) k ∙ sym (coef-shift ring 𝓜 (𝓜 .one) ((𝟙, g .0) ∷ g .1) k
       ∙ ap (λ L. lin (self ring) L ((𝟙, g .0) ∷ g .1)) (fun-ext (λ m. ap (δ R 𝓜 k) (monoid .one-mul m))))) (member-multiple S (𝓜 .one) (g, p))
 
@@ -85,17 +90,17 @@ module _ {F M : Type 0} {R : Arithmetic F} {𝓜 : Monomials M} {lt : M → M �
       each : (h : Poly F M) → h ∈ map (polynomial R) G → Member S (coef R 𝓜 h)
       each h p = let q = Memᴰ·of-map (polynomial R) G p in subst (λ x. Member S (coef R 𝓜 x)) (q .2) (member-line (q .0) (q .1))
 
-  pub coef-combination-nil : (k : M) → coef R 𝓜 (combination S []) k ≡ 𝟘
-  unfolding combination expand
+  pub coef-combination-nil : (k : M) → coef R 𝓜 (rulesCombined S []) k ≡ 𝟘
+  unfolding rulesCombined expand
   coef-combination-nil k = coef-nil ring 𝓜 k
 
-  pub coef-combination-cons : (t : F × (M × Place G)) (c : Poly F (M × Place G)) (k : M)
-      → coef R 𝓜 (combination S (t ∷ c)) k ≡ add (coef R 𝓜 (scale R (t .0) (multiple S (t .1 .0) (t .1 .1))) k) (coef R 𝓜 (combination S c) k)
-  unfolding combination expand
+  pub coef-combination-cons : (t : F × (M × LinePlace G)) (c : Poly F (M × LinePlace G)) (k : M)
+      → coef R 𝓜 (rulesCombined S (t ∷ c)) k ≡ add (coef R 𝓜 (scale R (t .0) (ruleMultiple S (t .1 .0) (t .1 .1))) k) (coef R 𝓜 (rulesCombined S c) k)
+  unfolding rulesCombined expand
   coef-combination-cons t c k = coef-append ring 𝓜 _ _ k
 
-  single : (c : F) (u : M) (i : Place G) (k : M) → coef R 𝓜 (scale R c (multiple S u i)) k ≡ coef R 𝓜 (times R 𝓜 ((c, u) ∷ []) (polynomial R (i .0))) k
-  unfolding expand multiple line polynomial
+  single : (c : F) (u : M) (i : LinePlace G) (k : M) → coef R 𝓜 (scale R c (ruleMultiple S u i)) k ≡ coef R 𝓜 (times R 𝓜 ((c, u) ∷ []) (polynomial R (i .0))) k
+  unfolding expand ruleMultiple rule polynomial
   single c u i k = sym (coef-append ring 𝓜 _ [] k ∙ ap (add _) (coef-nil ring 𝓜 k) ∙ ring .add-zero _)
 
   pub ideal-of-member : (f : Poly F M) → Member S (coef R 𝓜 f) → IdealOf R 𝓜 G f
@@ -104,11 +109,11 @@ module _ {F M : Type 0} {R : Arithmetic F} {𝓜 : Monomials M} {lt : M → M �
       fs : List (Poly F M)
       fs = map (polynomial R) G
 
-      go : (c : Poly F (M × Place G)) (h : Poly F M) → ((k : M) → coef R 𝓜 h k ≡ coef R 𝓜 (combination S c) k) → Ideal R 𝓜 fs h
+      go : (c : Poly F (M × LinePlace G)) (h : Poly F M) → ((k : M) → coef R 𝓜 h k ≡ coef R 𝓜 (rulesCombined S c) k) → Ideal R 𝓜 fs h
       go [] h e = ideal-zero ring 𝓜 fs h (λ k. e k ∙ coef-combination-nil k)
-      go (t ∷ c) h e = ideal-add ring 𝓜 fs (scale R (t .0) (multiple S (t .1 .0) (t .1 .1))) (combination S c) h (λ k. e k ∙ coef-combination-cons t c k)
+      go (t ∷ c) h e = ideal-add ring 𝓜 fs (scale R (t .0) (ruleMultiple S (t .1 .0) (t .1 .1))) (rulesCombined S c) h (λ k. e k ∙ coef-combination-cons t c k)
           (ideal-gen ring 𝓜 fs (polynomial R (t .1 .1 .0)) (Memᴰ·map (polynomial R) (t .1 .1 .1)) ((t .0, t .1 .0) ∷ []) _ (single (t .0) (t .1 .0) (t .1 .1)))
-          (go c (combination S c) (λ k. refl))
+          (go c (rulesCombined S c) (λ k. refl))
 
   -- 001, definition 1.1 (iii); (i) and (ii) are ideal-zero and ideal-add.
   pub ideal-times : (h f : Poly F M) → IdealOf R 𝓜 G f → IdealOf R 𝓜 G (times R 𝓜 h f)

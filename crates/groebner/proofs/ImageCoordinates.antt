@@ -1,23 +1,27 @@
 -- The image of a monomial as a sequence of coefficients: its coordinates at the monomials B₀ that no leading monomial of G divides.
---   vector 𝓟 ord G low B₀ m     the coordinates of the image of m
---   images-supported            images are zero outside B₀
---   vector-dependent            coordinates are dependent exactly where images are
---   vector-zero                 a combination of images is zero where that of the coordinates is
---   vector-shifts               on a Groebner basis: an equation between coordinates holds of the multiples too
---   image-irreducible           the image of an irreducible monomial is itself
---   vector-units                so each place has a monomial whose coordinates are a multiple of the unit vector
+--   imageVector 𝓟 ord G low B₀ m   the coordinates of the image of m
+--   images-supported               images are zero outside B₀
+--   vector-dependent               coordinates are dependent exactly where images are
+--   vector-zero                    a combination of images is zero where that of the coordinates is
+--   vector-shifts                  on a Groebner basis: an equation between coordinates holds of the multiples too
+--   image-irreducible              the image of an irreducible monomial is itself
+--   vector-units                   so each place has a monomial whose coordinates are a multiple of the unit vector
 use mathlib.Core.Path.{_≡_, sym, _∙_, ap, subst}
 use mathlib.Core.List.{List, [], _∷_, List·Memᴰ·eq-of-singleton}
 use mathlib.Core.Logic.{_↔_}
 use Prim.Native.Nat.{ℕ, _<_}
 use lib.ListN.{length}
-use Rattle.residue.specs.Field.{Arithmetic, Field}
-use Rattle.monomial.specs.Ordering.{Monomials, MonomialOrder}
-use Rattle.groebner.specs.Polynomials.{_∈_, Poly, coef}
-use Rattle.groebner.specs.Lines.{Line, Reducible, Low}
+use Rattle.lists.specs.Lists.{_∈_}
+use Rattle.residue.specs.Field.{Arithmetic}
+use Rattle.residue.specs.RingLaws.{Field}
+use Rattle.monomial.specs.Ordering.{Monomials}
+use Rattle.monomial.specs.OrderLaws.{MonomialOrder}
+use Rattle.groebner.specs.Polynomials.{Poly, coef}
+use Rattle.groebner.specs.Lines.{Line, Reducible}
+use Rattle.groebner.specs.Criteria.{Low}
 use Rattle.groebner.specs.Remainders.{done}
 use Rattle.groebner.specs.Bases.{Groebner}
-use Rattle.groebner.specs.Standard.{Lists}
+use Rattle.groebner.specs.Conversions.{Lists}
 use Rattle.groebner.proofs.Linear.{all-map, lin}
 use Rattle.groebner.proofs.Terms.{coef-nil, coef-here, coef-there, coef-absent}
 use Rattle.groebner.proofs.NormalForms.{nf-irreducible}
@@ -34,8 +38,8 @@ module _ {F M : Type 0} {R : Arithmetic F} {𝓜 : Monomials M} {lt : M → M �
   open Field field using (ring, nontrivial)
 
   -- The image of m at the monomials of B₀, in turn, and then zeros.
-  abbrev pub vector : List M → M → ℕ → F
-  vector B₀ m = coordinates R B₀ (image 𝓟 ord G low m)
+  abbrev pub imageVector : List M → M → ℕ → F
+  imageVector B₀ m = coordinates R B₀ (image 𝓟 ord G low m)
 
   -- An irreducible monomial is its own remainder.
   pub image-irreducible : (b : M) → ¬ Reducible 𝓜 G b → (k : M) → image 𝓟 ord G low b k ≡ coef R 𝓜 ((R .one, b) ∷ []) k
@@ -49,23 +53,23 @@ module _ {F M : Type 0} {R : Arithmetic F} {𝓜 : Monomials M} {lt : M → M �
     faithful : Faithful (coordinate-map ring B₀) (image 𝓟 ord G low)
     faithful = images-faithful R (𝓜 .same?) B₀ ring (image 𝓟 ord G low) images-supported
 
-    pub vector-dependent : (lt′ : M → M → Type 0) (m : M) → Dependent (sequences ring) (vector B₀) lt′ m ↔ Dependent (𝓕 𝓟 ord G low) (image 𝓟 ord G low) lt′ m
+    pub vector-dependent : (lt′ : M → M → Type 0) (m : M) → Dependent (sequences ring) (imageVector B₀) lt′ m ↔ Dependent (𝓕 𝓟 ord G low) (image 𝓟 ord G low) lt′ m
     unfolding coordinate-map
     vector-dependent lt′ m = (span-back (coordinate-map ring B₀) (image 𝓟 ord G low) faithful m, span-along (coordinate-map ring B₀) (image 𝓟 ord G low) m)
 
-    pub vector-zero : (f : Poly F M) → lin (sequences ring) (vector B₀) f ≡ sequences ring .null → lin (𝓕 𝓟 ord G low) (image 𝓟 ord G low) f ≡ 𝓕 𝓟 ord G low .null
+    pub vector-zero : (f : Poly F M) → lin (sequences ring) (imageVector B₀) f ≡ sequences ring .null → lin (𝓕 𝓟 ord G low) (image 𝓟 ord G low) f ≡ 𝓕 𝓟 ord G low .null
     unfolding coordinate-map
     vector-zero = zero-back (coordinate-map ring B₀) (image 𝓟 ord G low) faithful
 
-    pub vector-shifts : Groebner R 𝓜 lt G → Shifts (sequences ring) (vector B₀) 𝓜
+    pub vector-shifts : Groebner R 𝓜 lt G → Shifts (sequences ring) (imageVector B₀) 𝓜
     unfolding coordinate-map
     vector-shifts gb = shifts-along (coordinate-map ring B₀) (image 𝓟 ord G low) faithful 𝓜 (image-shifts 𝓟 ord G low gb)
 
     -- A monomial for each place whose coordinates are a multiple of the unit vector.
-    pub vector-units : (p : ℕ) → p < length B₀ → (b : M) × UnitMultiple (entries ring) p (vector B₀ b)
+    pub vector-units : (p : ℕ) → p < length B₀ → (b : M) × UnitMultiple (entries ring) p (imageVector B₀ b)
     vector-units p l = at (unit-place R B₀ (irreducible .once) p l)
       where
-        at : (b : M) × b ∈ B₀ × UnitPlace R B₀ p b → (b : M) × UnitMultiple (entries ring) p (vector B₀ b)
+        at : (b : M) × b ∈ B₀ × UnitPlace R B₀ p b → (b : M) × UnitMultiple (entries ring) p (imageVector B₀ b)
         at (b, i, u) = (b, unit-multiple R ring B₀ p b u (image 𝓟 ord G low b) (λ z. nontrivial (sym own ∙ z)) other)
           where
             value : (k : M) → image 𝓟 ord G low b k ≡ coef R 𝓜 ((R .one, b) ∷ []) k

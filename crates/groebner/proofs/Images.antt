@@ -10,10 +10,13 @@
 use mathlib.Core.Path.{_≡_, refl, sym, _∙_, ap, ap₂, subst, fun-ext}
 use mathlib.Core.List.{List, [], _∷_}
 use mathlib.Core.Logic.{_↔_}
-use Rattle.residue.specs.Field.{Arithmetic, Ring, Field}
-use Rattle.monomial.specs.Ordering.{Monomials, MonomialOrder}
+use Rattle.residue.specs.Field.{Arithmetic}
+use Rattle.residue.specs.RingLaws.{Ring, Field}
+use Rattle.monomial.specs.Ordering.{Monomials}
+use Rattle.monomial.specs.OrderLaws.{MonomialOrder}
 use Rattle.groebner.specs.Polynomials.{Poly, All, all-nil, all-cons, Polynomial, relabel, scale, negate, minus, shift, coef}
-use Rattle.groebner.specs.Lines.{Line, Low}
+use Rattle.groebner.specs.Lines.{Line}
+use Rattle.groebner.specs.Criteria.{Low}
 use Rattle.groebner.specs.Remainders.{Remainder}
 use Rattle.groebner.specs.Ideals.{IdealOf}
 use Rattle.groebner.specs.Bases.{Groebner}
@@ -23,7 +26,7 @@ use Rattle.groebner.proofs.Linear.{lin}
 use Rattle.groebner.proofs.Terms.{coef-nil, coef-append, coef-scale}
 use Rattle.groebner.proofs.NormalForms.{Rewriting, nf, nfc, NF, NF-coef, Member, member-shift}
 use Rattle.groebner.proofs.Ground.{PolynomialRing}
-use Rattle.groebner.proofs.Division.{Place, rewriting, remainder, remainder-NF}
+use Rattle.groebner.proofs.Division.{LinePlace, rewriting, remainder, remainder-NF}
 use Rattle.groebner.proofs.Ideals.{member-of-ideal, ideal-of-member}
 use Rattle.groebner.proofs.GroebnerBases.{groebner-NF}
 use Rattle.groebner.proofs.Congruence.{agree-of-member, member-of-agree}
@@ -40,7 +43,7 @@ module _ {F M : Type 0} {R : Arithmetic F} {𝓜 : Monomials M} {lt : M → M �
   open PolynomialRing 𝓟 using (field)
   open Field field using (ring, nontrivial)
 
-  abbrev S : Rewriting R 𝓜 (Place G)
+  abbrev S : Rewriting R 𝓜 (LinePlace G)
   S = rewriting 𝓟 ord G low
 
   -- The functions from monomials to coefficients.

@@ -2,7 +2,6 @@
 -- ordering with a successor function.
 --   Counts lt P most x                   x lists the monomials that have P, at most that many; or x is none, and more have P
 --   counts-iff                           that depends on P only up to equivalence
---   counts-more                          where more have P, every list of them is longer
 --   irreducibles-count                   irreducibles counts the monomials that are not excluded
 --   irreducibles-of-lines                among them those that no leading monomial divides
 use mathlib.Core.Path.{_≡_, refl, sym, _∙_}
@@ -10,19 +9,19 @@ use mathlib.Core.Bool.{Bool, true, false, false≢true}
 use mathlib.Core.List.{List, [], _∷_, _++_, List·Memᴰ·head, List·Memᴰ·not-nil, Memᴰ·append-left, Memᴰ·append-right, List·Memᴰ·append-cases, List·Memᴰ·eq-of-singleton}
 use mathlib.Core.Logic.{_⊎_, inl, inr, _↔_}
 use mathlib.Core.Option.{Option, none, some}
-use Prim.Native.Nat.{ℕ, zero, suc, _+_, _≤_, _<_}
+use Prim.Native.Nat.{ℕ, zero, suc, _+_, _≤_}
 use native.Mathlib.Omega.{arith}
 use lib.ListN.{length, length-append}
+use Rattle.lists.specs.Lists.{_∈_}
 use Rattle.monomial.specs.Rows.{Row, one}
-use Rattle.monomial.specs.Ordering.{Monomials, MonomialOrder, rows}
+use Rattle.monomial.specs.Ordering.{monomials}
+use Rattle.monomial.specs.OrderLaws.{MonomialOrder}
 use Rattle.monomial.proofs.AnyOrder.{one-least}
 use Rattle.monomial.proofs.Products.{exponent-one, divisible-at, rows-laws}
-use Rattle.groebner.specs.Polynomials.{_∈_}
-use Rattle.groebner.specs.Lines.{Line, Reducible}
-use Rattle.groebner.proofs.Lists.{pigeon}
-use Rattle.groebner.specs.RisingLists.{RisingList, ListsRising}
+use Rattle.groebner.specs.Lines.{Line, Reducible, RisingList}
+use Rattle.groebner.specs.RisingLists.{ListsRising}
 use Rattle.groebner.specs.Next.{collect, irreducibles}
-use Rattle.groebner.proofs.RisingLists.{rising-append, rising-once}
+use Rattle.groebner.proofs.RisingLists.{rising-append}
 use Rattle.groebner.proofs.Successors.{Closed, Successor, Successors, UpTo, Precedes, precedes-of-up-to, up-to-of-precedes}
 use Rattle.groebner.proofs.ReducibleTest.{reducible, irreducible-iff, reducible-closed}
 
@@ -35,12 +34,8 @@ pub counts-iff : {M : Type 0} (lt : M → M → Type 0) {P Q : M → Type 0} →
 counts-iff lt h most none c = (c .0, c .1, c .2, λ k i. h k .0 (c .3 k i))
 counts-iff lt h most (some l) c = (c .0, record { rising = c .1 .rising; all = λ k q. c .1 .all k (h k .1 q); only = λ k i. h k .0 (c .1 .only k i) })
 
-module _ {M : Type 0} {𝓜 : Monomials M} {lt : M → M → Type 0} (ord : MonomialOrder 𝓜 lt) where
-  pub counts-more : (P : M → Type 0) (most : ℕ) → Counts lt P most none → (l : List M) → ((k : M) → P k → k ∈ l) → most < length l
-  counts-more P most c l h = omega (arith, pigeon (c .0) l (rising-once ord (c .0) (c .2)) (λ k i. h k (c .3 k i)), c .1)
-
-module _ (n : ℕ) {lt : Row n → Row n → Type 0} (ord : MonomialOrder (rows n) lt) (next : (Row n → Bool) → Row n → Option (Row n)) (successors : Successors (rows n) lt next) where
-  module _ (excluded : Row n → Bool) (closed : Closed (rows n) excluded) where
+module _ (n : ℕ) {lt : Row n → Row n → Type 0} (ord : MonomialOrder (monomials n) lt) (next : (Row n → Bool) → Row n → Option (Row n)) (successors : Successors (monomials n) lt next) where
+  module _ (excluded : Row n → Bool) (closed : Closed (monomials n) excluded) where
     -- k has Q and is not excluded.
     abbrev Free : (Row n → Type 0) → Row n → Type 0
     Free Q k = Q k × (excluded k ≡ false)
@@ -88,7 +83,7 @@ module _ (n : ℕ) {lt : Row n → Row n → Type 0} (ord : MonomialOrder (rows 
         at (some r) s more = more r (onward (l ++ (m ∷ [])) m (add l m v free) (some r) s) (s .1) (omega (arith, length-append l (m ∷ [])))
 
     pub irreducibles-count : (most : ℕ) → Counts lt (λ k. excluded k ≡ false) most (irreducibles n next excluded most)
-    unfolding irreducibles rows
+    unfolding irreducibles monomials
     irreducibles-count most = at (excluded (one n)) refl
       where
         all-excluded : excluded (one n) ≡ true → (k : Row n) → ¬ (excluded k ≡ false)
@@ -102,5 +97,5 @@ module _ (n : ℕ) {lt : Row n → Row n → Type 0} (ord : MonomialOrder (rows 
         at false e = collect-count most most [] (one n) (record { rising = tt; all = λ k p. absurd (least k (p .0)); only = λ k i. absurd (List·Memᴰ·not-nil i) }) e (omega arith)
 
   -- The monomials that no leading monomial divides.
-  pub irreducibles-of-lines : {F : Type 0} (G : List (Line F (Row n))) (most : ℕ) → Counts lt (λ k. ¬ Reducible (rows n) G k) most (irreducibles n next (reducible n G) most)
+  pub irreducibles-of-lines : {F : Type 0} (G : List (Line F (Row n))) (most : ℕ) → Counts lt (λ k. ¬ Reducible (monomials n) G k) most (irreducibles n next (reducible n G) most)
   irreducibles-of-lines G most = counts-iff lt (irreducible-iff n G) most (irreducibles n next (reducible n G) most) (irreducibles-count (reducible n G) (reducible-closed n G) most)

@@ -1,16 +1,20 @@
 -- Leading monomials: of polynomials with the greatest term first, and of lines.
---   coef-over, coef-head, coef-past   coefficients at and above the greatest term
---   falling-unique                    with the greatest term first, a polynomial is written in one way
---   low, leading-line, ideal-line     a line: its tail, its leading monomial, its place in the ideal
---   leading-unique                    a polynomial has one leading monomial
+--   coef-over, coef-head, coef-past       coefficients at and above the greatest term
+--   falling-unique                        with the greatest term first, a polynomial is written in one way
+--   leads-low, leading-line, ideal-line   a line: its tail, its leading monomial, its place in the ideal
+--   leading-unique                        a polynomial has one leading monomial
 use mathlib.Core.Path.{_≡_, refl, sym, _∙_, ap, ap₂, subst}
 use mathlib.Core.List.{List, [], _∷_}
 use mathlib.Core.Logic.{_⊎_, inl, inr}
-use Rattle.residue.specs.Field.{Arithmetic, Ring, Field}
-use Rattle.monomial.specs.Ordering.{Monomials, MonomialOrder}
+use Rattle.lists.specs.Lists.{_∈_}
+use Rattle.residue.specs.Field.{Arithmetic}
+use Rattle.residue.specs.RingLaws.{Ring, Field}
+use Rattle.monomial.specs.Ordering.{Monomials}
+use Rattle.monomial.specs.OrderLaws.{MonomialOrder}
 use Rattle.monomial.proofs.AnyOrder.{irreflexive, asymmetric}
-use Rattle.groebner.specs.Polynomials.{_∈_, Poly, All, Polynomial, coef, Same}
-use Rattle.groebner.specs.Lines.{Line, polynomial, Falling, Lines, Low}
+use Rattle.groebner.specs.Polynomials.{Poly, All, Polynomial, coef, Same}
+use Rattle.groebner.specs.Lines.{Line, polynomial, Falling, Lines}
+use Rattle.groebner.specs.Criteria.{Low}
 use Rattle.groebner.specs.Ideals.{IdealOf}
 use Rattle.groebner.specs.Bases.{Leading}
 use Rattle.groebner.proofs.Linear.{all-map}
@@ -54,15 +58,15 @@ module _ {F M : Type 0} {R : Arithmetic F} {𝓜 : Monomials M} {lt : M → M �
   open Field field using (ring, nontrivial)
 
   -- The tail of a line is below its leading monomial.
-  pub low : {G : List (Line F M)} → Lines R lt G → Low lt G
-  low s g p = s .falling g p .0
+  pub leads-low : {G : List (Line F M)} → Lines R lt G → Low lt G
+  leads-low s g p = s .falling g p .0
 
   pub leading-line : {G : List (Line F M)} → Lines R lt G → (g : Line F M) → g ∈ G → Leading R 𝓜 lt (polynomial R g) (g .0)
   unfolding polynomial
-  leading-line s g p = (λ e. nontrivial (sym (coef-head ring ord (𝟙, g .0) (g .1) (low s g p)) ∙ e), λ k w. coef-past ring ord (𝟙, g .0) (g .1) k (low s g p) w)
+  leading-line s g p = (λ e. nontrivial (sym (coef-head ring ord (𝟙, g .0) (g .1) (leads-low s g p)) ∙ e), λ k w. coef-past ring ord (𝟙, g .0) (g .1) k (leads-low s g p) w)
 
   pub ideal-line : {G : List (Line F M)} → Lines R lt G → (g : Line F M) → g ∈ G → IdealOf R 𝓜 G (polynomial R g)
-  ideal-line {G} s g p = ideal-of-member 𝓟 ord G (low s) (polynomial R g) (member-line 𝓟 ord G (low s) g p)
+  ideal-line {G} s g p = ideal-of-member 𝓟 ord G (leads-low s) (polynomial R g) (member-line 𝓟 ord G (leads-low s) g p)
 
   pub leading-unique : (f : Poly F M) (m k : M) → Leading R 𝓜 lt f m → Leading R 𝓜 lt f k → m ≡ k
   leading-unique f m k a b = go (ord .total m k)

@@ -3,8 +3,8 @@
 --   Remainders: NormalForms, Division (T1, T2)
 --   Ideals and Groebner bases: Ideals, GroebnerBases (T2, T4), SPairs, Buchberger (T3), CoprimeLeads, Congruence (T4), Leads, LeadingTerms, Clear, Uniqueness (T8)
 --   Two orders: Spans, Images, OtherLines, ChangeOfOrder (T6, T7), Equivalence (T9)
---   Zero dimension (T5): Powers, Decisions, ZeroDimension, PowerLeads
---   Multiplication rows (T13): Variables, DotProducts, Places, ClearLines, NormalCoefficients, Commute, MultiplicationRows
+--   Zero dimension (T5): Decisions, ZeroDimension, PowerLeads
+--   Multiplication rows (T13): Variables, DotProducts, ClearLines, NormalCoefficients, Commute, MultiplicationRows
 --   Elimination: Elimination, Echelon (T12), RowElimination, CoefficientRows, CoefficientElimination, Coordinates, ImageCoordinates
 --   The enumeration (T11): Exponents, RisingLists, Counting, Successors, Next, ReducibleTest, Seen, Enumeration, EnumerationResult, EnumerationEnd,
 --     IrreducibleList, EnumerationUnique; its outcome: OrderedTails, EnumerationBasis, EnumerationOutcome (T12)
@@ -34,13 +34,11 @@ pub mod Images
 pub mod OtherLines
 pub mod ChangeOfOrder
 pub mod Equivalence
-pub mod Powers
 pub mod Decisions
 pub mod ZeroDimension
 pub mod PowerLeads
 pub mod Variables
 pub mod DotProducts
-pub mod Places
 pub mod ClearLines
 pub mod NormalCoefficients
 pub mod Commute

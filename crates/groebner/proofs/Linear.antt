@@ -5,12 +5,15 @@
 -- Of lin, by its polynomial: lin-append, lin-scale, lin-negate, lin-relabel, lin-expand, lin-split
 -- Of lin, by its map: lin-on, lin-plus, lin-opposite, lin-zero, lin-act, lin-swap; lin-self
 -- coef-lin: the coefficient is a linear extension; lin-same: polynomials with the same coefficients have the same linear extensions
+-- coef-split: the coefficients, with those at one monomial apart; lin-vanish: without coefficients the linear extension is null
 use mathlib.Core.Path.{_≡_, refl, sym, _∙_, ap, ap₂}
 use mathlib.Core.List.{List, [], _∷_, _++_, List·Memᴰ·head, List·Memᴰ·tail, List·Memᴰ·not-nil, List·Memᴰ·cases-cons}
 use mathlib.Core.Logic.{_⊎_, inl, inr, ite}
-use Rattle.residue.specs.Field.{Arithmetic, Ring}
+use Rattle.lists.specs.Lists.{_∈_}
+use Rattle.residue.specs.Field.{Arithmetic}
+use Rattle.residue.specs.RingLaws.{Ring}
 use Rattle.monomial.specs.Ordering.{Monomials}
-use Rattle.groebner.specs.Polynomials.{_∈_, Poly, All, all-nil, all-cons, relabel, scale, negate, expand, δ, coef, Same}
+use Rattle.groebner.specs.Polynomials.{Poly, All, all-nil, all-cons, relabel, scale, negate, expand, δ, coef, Same}
 use Rattle.groebner.proofs.Modules.{Module, self, null-plus, plus-left-comm, plus-medial, zero-act, act-null, neg-act, act-opposite, opposite-null, opposite-plus, equal-of-difference, zero-add, mul-zero}
 
 module _ {F M : Type 0} where

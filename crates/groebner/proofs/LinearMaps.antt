@@ -12,7 +12,7 @@ use Rattle.monomial.specs.Ordering.{Monomials}
 use Rattle.groebner.specs.Polynomials.{Poly, shift}
 use Rattle.groebner.proofs.Modules.{Module, zero-act}
 use Rattle.groebner.proofs.Linear.{lin}
-use Rattle.groebner.proofs.Spans.{Span, Shifts, span-one}
+use Rattle.groebner.proofs.Spans.{LinearSpan, Shifts, span-one}
 
 -- A map of modules that keeps sums and multiples.
 pub record LinearMap {F W U : Type 0} {R : Arithmetic F} (𝓥 : Module R W) (𝓤 : Module R U) : Type 0 where
@@ -47,7 +47,7 @@ module _ {F W U : Type 0} {R : Arithmetic F} {𝓥 : Module R W} {𝓤 : Module 
     pub combination-along : (m : M) (f : Poly F M) → L m ≡ lin 𝓥 L f → along m ≡ lin 𝓤 along f
     combination-along m f e = ap (π .apply) e ∙ apply-lin f
 
-    pub span-along : {P : M → Type 0} (m : M) → Span 𝓥 L P (L m) → Span 𝓤 along P (along m)
+    pub span-along : {P : M → Type 0} (m : M) → LinearSpan 𝓥 L P (L m) → LinearSpan 𝓤 along P (along m)
     span-along m s = (s .0, s .1, combination-along m (s .0) (s .2))
 
     module _ (faithful : Faithful) where
@@ -61,10 +61,10 @@ module _ {F W U : Type 0} {R : Arithmetic F} {𝓥 : Module R W} {𝓤 : Module 
       pub combination-back : (m : M) (f : Poly F M) → along m ≡ lin 𝓤 along f → L m ≡ lin 𝓥 L f
       combination-back m f e = one .2 ∙ faithful (one .0) f (ap (π .apply) (sym (one .2)) ∙ e ∙ sym (apply-lin f))
         where
-          one : Span 𝓥 L (λ _. Unit) (L m)
+          one : LinearSpan 𝓥 L (λ _. Unit) (L m)
           one = span-one 𝓥 L m tt
 
-      pub span-back : {P : M → Type 0} (m : M) → Span 𝓤 along P (along m) → Span 𝓥 L P (L m)
+      pub span-back : {P : M → Type 0} (m : M) → LinearSpan 𝓤 along P (along m) → LinearSpan 𝓥 L P (L m)
       span-back m s = (s .0, s .1, combination-back m (s .0) (s .2))
 
       pub shifts-along : (𝓜 : Monomials M) → Shifts 𝓥 L 𝓜 → Shifts 𝓤 along 𝓜

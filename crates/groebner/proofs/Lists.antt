@@ -3,15 +3,14 @@
 --   once-append     two lists without repetition and without a common element make one without repetition
 --   in-map, of-map  the elements of a mapped list
 --   range d         d - 1, .., 1, 0; length-range, in-range, of-range, once-range, once-map-range
-use mathlib.Core.Path.{_≡_, refl, sym, _∙_, ap, subst}
+use mathlib.Core.Path.{_≡_, refl, sym, _∙_, ap}
 use mathlib.Core.List.{List, [], _∷_, _++_, map, List·Memᴰ·head, List·Memᴰ·tail, List·Memᴰ·not-nil, List·Memᴰ·cases-cons, List·Memᴰ·append-cases, Memᴰ·cast}
 use mathlib.Core.Logic.{_⊎_, inl, inr}
 use Prim.Native.Nat.{ℕ, zero, suc, _≤_, _<_}
 use native.Mathlib.Decide.{ℕ-discrete}
 use native.Mathlib.Omega.{arith}
 use lib.ListN.{length}
-use Rattle.groebner.specs.Polynomials.{_∈_}
-use Rattle.groebner.specs.Lines.{Once}
+use Rattle.lists.specs.Lists.{_∈_, Once}
 
 module _ {A : Type 0} where
   -- ys without the found occurrence

@@ -5,7 +5,7 @@
 use mathlib.Core.Path.{_≡_, sym, subst}
 use mathlib.Core.List.{List, [], _∷_, _++_, map, List·Memᴰ·head, List·Memᴰ·tail, List·Memᴰ·not-nil, List·Memᴰ·cases-cons, List·Memᴰ·append-cases, List·Memᴰ·eq-of-singleton}
 use mathlib.Core.Logic.{_⊎_, inl, inr}
-use Rattle.groebner.specs.Polynomials.{_∈_}
+use Rattle.lists.specs.Lists.{_∈_}
 use Rattle.groebner.proofs.Lists.{of-map}
 
 pub member? : {A : Type 0} → ((a b : A) → Dec (a ≡ b)) → (a : A) (l : List A) → Dec (a ∈ l)

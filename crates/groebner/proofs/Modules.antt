@@ -8,7 +8,8 @@
 -- Laws of a ring: zero-add, mul-zero
 use mathlib.Core.Path.{_≡_, sym, _∙_, ap, ap₂, fun-ext}
 use mathlib.Core.HLevel.{→-set}
-use Rattle.residue.specs.Field.{Arithmetic, Ring}
+use Rattle.residue.specs.Field.{Arithmetic}
+use Rattle.residue.specs.RingLaws.{Ring}
 
 -- A module W over a commutative ring.
 pub record Module {F : Type 0} (R : Arithmetic F) (W : Type 0) : Type 0 where

@@ -12,16 +12,15 @@ use mathlib.Core.Option.{Option, none, some}
 use Prim.Native.Nat.{ℕ, zero, suc, _+_, _≤_, _<_}
 use native.Mathlib.Decide.{ℕ-discrete}
 use native.Mathlib.Omega.{arith}
+use Rattle.lists.specs.Lists.{_∈_, Once}
 use Rattle.monomial.specs.Rows.{Row, exponent}
 use Rattle.monomial.specs.Orders.{lex, variablesFrom, variables}
-use Rattle.monomial.specs.Ordering.{Divides, rows, Before}
+use Rattle.monomial.specs.Ordering.{Divides, monomials, LessBy}
 use Rattle.monomial.specs.declared.order.Comparison.the-variants.{Less}
 use Rattle.monomial.proofs.Products.{divisible-at}
 use Rattle.monomial.proofs.Comparisons.{equal-not-less}
 use Rattle.monomial.proofs.LexOrder.{lex-cons-less, variables-rank}
-use Rattle.groebner.specs.Polynomials.{_∈_}
-use Rattle.groebner.specs.Lines.{Once}
-use Rattle.groebner.specs.Next.{raise, clear, Ranking, carried, next}
+use Rattle.groebner.specs.Next.{clear, RanksOnce, carried, next}
 use Rattle.groebner.proofs.Exponents.{raise-same, raise-other, clear-in, clear-out}
 use Rattle.groebner.proofs.Successors.{Closed, Successor, Successors}
 
@@ -80,7 +79,7 @@ module _ (n : ℕ) (m : Row n) (v : ℕ) (s : List ℕ) (within : v < n) (apart 
   carried-agrees i l h = raise-other n v (clear n s m) i (λ e. h (List·Memᴰ·head e)) ∙ clear-out n m s i (λ j. h (List·Memᴰ·tail j))
 
   -- It divides all that agree with m outside v and s and have a higher exponent of v.
-  carried-divides : (k : Row n) → Agree n (v ∷ s) m k → exponent n m v < exponent n k v → Divides (rows n) (carried n v s m) k
+  carried-divides : (k : Row n) → Agree n (v ∷ s) m k → exponent n m v < exponent n k v → Divides (monomials n) (carried n v s m) k
   carried-divides k a h = divisible-at n (carried n v s m) k .1 (λ i l. at i l (ℕ-discrete i v) (member? i s))
     where
       at : (i : ℕ) → i < n → Dec (i ≡ v) → Dec (i ∈ s) → exponent n (carried n v s m) i ≤ exponent n k i
@@ -97,7 +96,7 @@ module _ (n : ℕ) (m : Row n) (v : ℕ) (s : List ℕ) (within : v < n) (apart 
 
   module _ (excluded : Row n → Bool) where
     -- All above m that agree with it at v too are excluded: the exponent of v is raised.
-    carry : Closed (rows n) excluded → Follows n s excluded m none → (b : Bool) → excluded (carried n v s m) ≡ b
+    carry : Closed (monomials n) excluded → Follows n s excluded m none → (b : Bool) → excluded (carried n v s m) ≡ b
         → Follows n (v ∷ s) excluded m (elim b [ true ↦ none | false ↦ some (carried n v s m) ])
     carry closed f true e = λ k a l. at k a (lex-cons-less n v s m k .0 l)
       where
@@ -134,7 +133,7 @@ module _ (n : ℕ) (m : Row n) (v : ℕ) (s : List ℕ) (within : v < n) (apart 
         at k a (inr p) (inl q) = absurd (omega (arith, same, p .0))
         at k a (inr p) (inr q) = f .3 k (agree-rest k a (p .0)) (p .1) (q .1)
 
-next-follows : (n : ℕ) (s : List ℕ) → Once s → ((i : ℕ) → i ∈ s → i < n) → (excluded : Row n → Bool) → Closed (rows n) excluded → (m : Row n)
+next-follows : (n : ℕ) (s : List ℕ) → Once s → ((i : ℕ) → i ∈ s → i < n) → (excluded : Row n → Bool) → Closed (monomials n) excluded → (m : Row n)
     → Follows n s excluded m (next n s excluded m)
 unfolding next lex
 next-follows n [] once only excluded closed m = λ k a l. absurd (equal-not-less l)
@@ -148,13 +147,13 @@ next-follows n (v ∷ s) once only excluded closed m = at (next n s excluded m) 
     at none f = carry n m v s within (once .0) excluded closed f (excluded (carried n v s m)) refl
     at (some r) f = stay n m v s within (once .0) excluded r f
 
-pub next-lex : (n : ℕ) (s : List ℕ) → Ranking n s → Successors (rows n) (Before (lex n s)) (next n s)
+pub next-lex : (n : ℕ) (s : List ℕ) → RanksOnce n s → Successors (monomials n) (LessBy (lex n s)) (next n s)
 next-lex n s ranking excluded closed m = at (next n s excluded m) (next-follows n s (ranking .once) (ranking .only) excluded closed m)
   where
     agree : (k : Row n) → Agree n s m k
     agree k i l h = absurd (h (ranking .all i l))
 
-    at : (x : Option (Row n)) → Follows n s excluded m x → Successor (Before (lex n s)) excluded m x
+    at : (x : Option (Row n)) → Follows n s excluded m x → Successor (LessBy (lex n s)) excluded m x
     at none f = λ k l. f k (agree k) l
     at (some r) f = (f .1, f .2, λ k l g. f .3 k (agree k) l g)
 
@@ -172,6 +171,6 @@ unfolding variablesFrom
 variables-from-once zero i = tt
 variables-from-once (suc k) i = (λ h. omega (arith, variables-from-bounds k (suc i) i h .0), variables-from-once k (suc i))
 
-pub variables-ranking : (n : ℕ) → Ranking n (variables n)
+pub variables-ranking : (n : ℕ) → RanksOnce n (variables n)
 unfolding variables
 variables-ranking n = record { once = variables-from-once n 0; all = λ i l. variables-rank n i l; only = λ i h. omega (arith, variables-from-bounds n 0 i h .1) }

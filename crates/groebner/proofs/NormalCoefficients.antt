@@ -1,34 +1,38 @@
 -- Maps that vanish on the multiples of the lines, and more on the images of monomials (proofs/Images.antt).
---   lin-single             the linear extension at one monomial
---   unit R 𝓜 b             the coefficients of the monomial b
---   lin-unit               the coefficients of f are the linear extension of unit
---   reducible-multiple     a multiple of a reducible monomial is reducible
---   irreducible-divisor    a divisor of an irreducible monomial is irreducible
---   not-reducible          irreducible, in the words of the definitions
---   ideal-vanishes         a map under which the multiples of the lines vanish vanishes on the ideal
---   NF-value, nf-value     so it has the same value on a polynomial, or a monomial, and on its normal form
---   nf-below               the normal form of a reducible monomial lies below it
---   image-irreducible      the monomials of a normal form are irreducible
---   image-unit             an irreducible monomial is its own normal form
---   image-zero             of a Groebner basis: normal forms vanish on the ideal
---   image-shift            of a Groebner basis: the normal form of u·m is that of u times the normal form of m
---   image-lead             of a Groebner basis: the normal form of a leading monomial is minus the tail
+--   lin-single                the linear extension at one monomial
+--   unitCoefficients R 𝓜 b    the coefficients of the monomial b
+--   lin-unit                  the coefficients of f are the linear extension of unitVector
+--   reducible-multiple        a multiple of a reducible monomial is reducible
+--   irreducible-divisor       a divisor of an irreducible monomial is irreducible
+--   not-reducible             irreducible, in the words of the definitions
+--   ideal-vanishes            a map under which the multiples of the lines vanish vanishes on the ideal
+--   NF-value, nf-value        so it has the same value on a polynomial, or a monomial, and on its normal form
+--   nf-below                  the normal form of a reducible monomial lies below it
+--   coefficient-irreducible   the monomials of a normal form are irreducible
+--   image-unit                an irreducible monomial is its own normal form
+--   image-zero                of a Groebner basis: normal forms vanish on the ideal
+--   image-shift               of a Groebner basis: the normal form of u·m is that of u times the normal form of m
+--   image-lead                of a Groebner basis: the normal form of a leading monomial is minus the tail
 use mathlib.Core.Path.{_≡_, refl, sym, _∙_, ap, ap₂, subst, fun-ext}
 use mathlib.Core.List.{List, [], _∷_, _++_}
 use mathlib.Core.Logic.{_⊎_, inl, inr, ⊎-elim}
 use mathlib.Core.WellFounded.{WellFounded·induction}
-use Rattle.residue.specs.Field.{Arithmetic, Ring, Field}
-use Rattle.monomial.specs.Ordering.{Monomials, MonomialOrder}
-use Rattle.groebner.specs.Polynomials.{_∈_, Poly, All, all-nil, all-cons, negate, shift, δ, coef}
-use Rattle.groebner.specs.Lines.{Line, polynomial, Reducible, Low}
+use Rattle.lists.specs.Lists.{_∈_}
+use Rattle.residue.specs.Field.{Arithmetic}
+use Rattle.residue.specs.RingLaws.{Ring, Field}
+use Rattle.monomial.specs.Ordering.{Monomials}
+use Rattle.monomial.specs.OrderLaws.{MonomialOrder}
+use Rattle.groebner.specs.Polynomials.{Poly, All, all-nil, all-cons, negate, shift, δ, coef}
+use Rattle.groebner.specs.Lines.{Line, polynomial, Reducible}
+use Rattle.groebner.specs.Criteria.{Low}
 use Rattle.groebner.specs.Bases.{Groebner}
 use Rattle.groebner.proofs.Modules.{Module, self, functions, equal-of-difference, opposite-unique}
 use Rattle.groebner.proofs.Linear.{all-map, all-true, all-scale, all-expand, lin, lin-append, lin-negate, lin-relabel, lin-expand, lin-on, coef-lin, lin-same}
 use Rattle.groebner.proofs.Terms.{coef-minus}
-use Rattle.groebner.proofs.NormalForms.{Pick, found, stuck, Rewriting, line, multiple, nf, NF, nf-found, nf-stuck, nf-irreducible, NF-fixed, Irreducible, combination, Member, member-same, member-shift, residue}
+use Rattle.groebner.proofs.NormalForms.{Pick, found, stuck, Rewriting, rule, ruleMultiple, nf, NF, nf-found, nf-stuck, nf-irreducible, NF-fixed, Irreducible, rulesCombined, Member, member-same, member-shift, residue-member}
 use Rattle.groebner.proofs.SPairs.{combination-zero}
 use Rattle.groebner.proofs.Ground.{PolynomialRing, divides-trans}
-use Rattle.groebner.proofs.Division.{Place, rewriting, shift-below}
+use Rattle.groebner.proofs.Division.{LinePlace, rewriting, shift-below}
 use Rattle.groebner.proofs.Ideals.{member-line}
 use Rattle.groebner.proofs.GroebnerBases.{groebner-NF}
 use Rattle.groebner.proofs.Images.{lin-at, 𝓕, image, image-NF}
@@ -38,18 +42,18 @@ unfolding lin
 lin-single 𝓥 L m = 𝓥 .plus-null _ ∙ 𝓥 .act-one (L m)
 
 -- The coefficients of the monomial b.
-abbrev pub unit : {F M : Type 0} → Arithmetic F → Monomials M → M → M → F
-unit R 𝓜 b k = δ R 𝓜 k b
+abbrev pub unitCoefficients : {F M : Type 0} → Arithmetic F → Monomials M → M → M → F
+unitCoefficients R 𝓜 b k = δ R 𝓜 k b
 
-pub lin-unit : {F M : Type 0} {R : Arithmetic F} (ring : Ring R) (𝓜 : Monomials M) (f : Poly F M) → lin (functions M (self ring)) (unit R 𝓜) f ≡ coef R 𝓜 f
-lin-unit {R = R} ring 𝓜 f = fun-ext (λ k. lin-at ring (unit R 𝓜) f k ∙ sym (coef-lin ring 𝓜 f k))
+pub lin-unit : {F M : Type 0} {R : Arithmetic F} (ring : Ring R) (𝓜 : Monomials M) (f : Poly F M) → lin (functions M (self ring)) (unitCoefficients R 𝓜) f ≡ coef R 𝓜 f
+lin-unit {R = R} ring 𝓜 f = fun-ext (λ k. lin-at ring (unitCoefficients R 𝓜) f k ∙ sym (coef-lin ring 𝓜 f k))
 
 module _ {F M : Type 0} {R : Arithmetic F} {𝓜 : Monomials M} {lt : M → M → Type 0} (𝓟 : PolynomialRing R 𝓜) (ord : MonomialOrder 𝓜 lt) (G : List (Line F M)) (low : Low lt G) where
   open Monomials 𝓜 using (mul as prod)
   open PolynomialRing 𝓟 using (field, monoid)
   open Field field using (ring)
 
-  abbrev S : Rewriting R 𝓜 (Place G)
+  abbrev S : Rewriting R 𝓜 (LinePlace G)
   S = rewriting 𝓟 ord G low
 
   -- A multiple of a reducible monomial is reducible.
@@ -62,18 +66,18 @@ module _ {F M : Type 0} {R : Arithmetic F} {𝓜 : Monomials M} {lt : M → M �
   pub not-reducible : (m : M) → Irreducible S m → ¬ Reducible 𝓜 G m
   not-reducible m h r = h (r .0, r .1) (r .2 .0) (r .2 .1)
 
-  pub image-irreducible : (m : M) → All {F = F} (λ k. ¬ Reducible 𝓜 G k) (nf S m)
-  image-irreducible m = all-map not-reducible (nf-irreducible S m)
+  pub coefficient-irreducible : (m : M) → All {F = F} (λ k. ¬ Reducible 𝓜 G k) (nf S m)
+  coefficient-irreducible m = all-map not-reducible (nf-irreducible S m)
 
   -- A map under which the multiples of the lines vanish.
   module _ {W : Type 0} (𝓥 : Module R W) (Φ : M → W) (lines : (u : M) (g : Line F M) → g ∈ G → lin 𝓥 Φ (shift 𝓜 u (polynomial R g)) ≡ 𝓥 .null) where
     pub ideal-vanishes : (f : Poly F M) → Member S (coef R 𝓜 f) → lin 𝓥 Φ f ≡ 𝓥 .null
-    unfolding multiple line polynomial
-    ideal-vanishes f a = lin-same ring 𝓜 𝓥 Φ f (combination S (a .0)) (a .1) ∙ combination-zero S 𝓥 Φ (all-true (λ x. lines (x .0) (x .1 .0) (x .1 .1)) (a .0))
+    unfolding ruleMultiple rule polynomial
+    ideal-vanishes f a = lin-same ring 𝓜 𝓥 Φ f (rulesCombined S (a .0)) (a .1) ∙ combination-zero S 𝓥 Φ (all-true (λ x. lines (x .0) (x .1 .0) (x .1 .1)) (a .0))
 
     pub NF-value : (f : Poly F M) → lin 𝓥 Φ (NF S f) ≡ lin 𝓥 Φ f
     NF-value f = sym (equal-of-difference 𝓥 _ _ (ap (𝓥 .plus (lin 𝓥 Φ f)) (sym (lin-negate 𝓥 Φ (NF S f))) ∙ sym (lin-append 𝓥 Φ f (negate R (NF S f)))
-        ∙ ideal-vanishes (f ++ negate R (NF S f)) (member-same S _ _ (coef-minus ring 𝓜 f (NF S f)) (residue S f))))
+        ∙ ideal-vanishes (f ++ negate R (NF S f)) (member-same S _ _ (coef-minus ring 𝓜 f (NF S f)) (residue-member S f))))
 
     pub nf-value : (m : M) → lin 𝓥 Φ (nf S m) ≡ Φ m
     unfolding NF
@@ -111,9 +115,9 @@ module _ {F M : Type 0} {R : Arithmetic F} {𝓜 : Monomials M} {lt : M → M �
   lin-image : (f : Poly F M) → lin 𝓒 N f ≡ coef R 𝓜 (NF S f)
   lin-image f = fun-ext (image-NF 𝓟 ord G low f)
 
-  pub image-unit : (m : M) → ¬ Reducible 𝓜 G m → N m ≡ unit R 𝓜 m
+  pub image-unit : (m : M) → ¬ Reducible 𝓜 G m → N m ≡ unitCoefficients R 𝓜 m
   image-unit m s = sym (lin-single 𝓒 N m) ∙ lin-image ((R .one, m) ∷ []) ∙ fun-ext (NF-fixed S ((R .one, m) ∷ []) (all-cons (λ i u e. s (i .0, i .1, (u, e))) all-nil))
-      ∙ sym (lin-unit ring 𝓜 ((R .one, m) ∷ [])) ∙ lin-single 𝓒 (unit R 𝓜) m
+      ∙ sym (lin-unit ring 𝓜 ((R .one, m) ∷ [])) ∙ lin-single 𝓒 (unitCoefficients R 𝓜) m
 
   -- Of a Groebner basis.
   module _ (gb : Groebner R 𝓜 lt G) where
@@ -128,5 +132,5 @@ module _ {F M : Type 0} {R : Arithmetic F} {𝓜 : Monomials M} {lt : M → M �
 
     pub image-lead : (g : Line F M) → g ∈ G → All (λ m. ¬ Reducible 𝓜 G m) (g .1) → N (g .0) ≡ 𝓒 .opposite (coef R 𝓜 (g .1))
     unfolding polynomial lin
-    image-lead g p a = opposite-unique 𝓒 _ _ (𝓒 .plus-comm _ _ ∙ ap₂ (𝓒 .plus) (sym (𝓒 .act-one (N (g .0)))) (sym (lin-on 𝓒 N (unit R 𝓜) image-unit a ∙ lin-unit ring 𝓜 (g .1)))
+    image-lead g p a = opposite-unique 𝓒 _ _ (𝓒 .plus-comm _ _ ∙ ap₂ (𝓒 .plus) (sym (𝓒 .act-one (N (g .0)))) (sym (lin-on 𝓒 N (unitCoefficients R 𝓜) image-unit a ∙ lin-unit ring 𝓜 (g .1)))
         ∙ image-zero (polynomial R g) (member-line 𝓟 ord G low g p))

@@ -1,24 +1,28 @@
 -- Normal forms: the linear extension of the rewriting of single monomials.
 --   Pick prod lead m     what divides m: a line and a cofactor, or nothing
 --   Rewriting R 𝓜 I      an order and monic lines, one for each i of I, with a chosen line for each monomial that some line divides
---   line S i             the polynomial of line i
---   multiple S u i       u times line i
+--   rule S i             the polynomial of line i
+--   ruleMultiple S u i   u times line i
 --   nf S m, NF S f       the normal form of a monomial, of a polynomial
+--   nfc S k m            the coefficient of k in the normal form of m
 --   Irreducible S m      no leading monomial divides m
---   combination S c      Σ c·u·line i over the terms c·(u, i) of c
+--   rulesCombined S c    Σ c·u·line i over the terms c·(u, i) of c
 --   Member S v           the coefficients v are those of an element of the ideal, a combination of multiples
 -- Of normal forms: nf-found, nf-stuck, NF-coef, NF-same, nf-irreducible, NF-irreducible, NF-fixed, chosen
 -- Of the ideal: member-zero, member-add, member-scale, member-neg, member-multiple, member-same, member-lin, member-shift
--- A polynomial and its normal form: residue, member-of-NF
+-- A polynomial and its normal form: residue, residue-monomial, member-of-NF
+-- Of multiples and combinations: multiple-prod, coef-combination
 use mathlib.Core.Path.{_≡_, refl, sym, _∙_, ap, ap₂, subst, fun-ext}
-use mathlib.Core.List.{List, [], _∷_, _++_}
+use mathlib.Core.List.{[], _∷_, _++_}
 use mathlib.Core.WellFounded.{WellFounded, WellFounded·induction, fix, fix-eq}
-use Rattle.residue.specs.Field.{Arithmetic, Ring}
-use Rattle.monomial.specs.Ordering.{Monomials, MonomialLaws}
+use Rattle.residue.specs.Field.{Arithmetic}
+use Rattle.residue.specs.RingLaws.{Ring}
+use Rattle.monomial.specs.Ordering.{Monomials}
+use Rattle.monomial.specs.OrderLaws.{MonomialLaws}
 use Rattle.groebner.specs.Polynomials.{Poly, All, all-nil, all-cons, relabel, scale, negate, shift, expand, δ, coef, Same}
 use Rattle.groebner.proofs.Modules.{Module, self, exchange-difference, opposite-null}
-use Rattle.groebner.proofs.Linear.{all-append, all-map, all-true, all-scale, all-relabel, all-expand, lin, lin-append, lin-scale, lin-negate, lin-relabel, lin-expand, lin-on, lin-zero, lin-plus, lin-opposite, coef-lin, lin-same}
-use Rattle.groebner.proofs.Terms.{coef-nil, coef-negate, coef-shift}
+use Rattle.groebner.proofs.Linear.{all-map, all-true, all-scale, all-relabel, all-expand, lin, lin-append, lin-scale, lin-negate, lin-relabel, lin-expand, lin-on, lin-plus, lin-opposite, coef-lin, lin-same}
+use Rattle.groebner.proofs.Terms.{coef-negate, coef-shift}
 
 -- What divides m, if anything does.
 pub data Pick {I M : Type 0} (prod : M → M → M) (lead : I → M) (m : M) : Type 0 where
@@ -52,11 +56,11 @@ module _ {F M I : Type 0} {R : Arithmetic F} {𝓜 : Monomials M} (S : Rewriting
   open Monomials 𝓜 using (mul as prod)
   open Rewriting S using (ring, monoid, lt, wf, mono, lead, tail, small, pick)
 
-  unfoldable pub line : I → Poly F M
-  line i = (R .one, lead i) ∷ tail i
+  unfoldable pub rule : I → Poly F M
+  rule i = (R .one, lead i) ∷ tail i
 
-  unfoldable pub multiple : M → I → Poly F M
-  multiple u i = relabel (prod u) (line i)
+  unfoldable pub ruleMultiple : M → I → Poly F M
+  ruleMultiple u i = relabel (prod u) (rule i)
 
   lower : {m : M} (i : I) (u : M) → m ≡ prod u (lead i) → All (λ x. lt x m) (relabel (prod u) (tail i))
   lower i u e = all-relabel (λ x. lt x _) (prod u) (all-map (λ x h. subst (lt (prod u x)) (sym e) (mono u h)) (small i))
@@ -86,13 +90,13 @@ module _ {F M I : Type 0} {R : Arithmetic F} {𝓜 : Monomials M} (S : Rewriting
   module _ {W : Type 0} (𝓥 : Module R W) where
     open Module 𝓥 using (null, plus, opposite, act, plus-assoc, plus-comm, plus-null, plus-opposite)
 
-    pub multiple-prod : (L : M → W) (w a : M) (i : I) → lin 𝓥 L (multiple (prod w a) i) ≡ lin 𝓥 (λ m. L (prod w m)) (multiple a i)
-    unfolding multiple
-    multiple-prod L w a i = lin-relabel 𝓥 L (prod (prod w a)) (line i) ∙ ap (λ K. lin 𝓥 K (line i)) (fun-ext (λ m. ap L (monoid .mul-assoc w a m))) ∙ sym (lin-relabel 𝓥 (λ m. L (prod w m)) (prod a) (line i))
+    pub multiple-prod : (L : M → W) (w a : M) (i : I) → lin 𝓥 L (ruleMultiple (prod w a) i) ≡ lin 𝓥 (λ m. L (prod w m)) (ruleMultiple a i)
+    unfolding ruleMultiple
+    multiple-prod L w a i = lin-relabel 𝓥 L (prod (prod w a)) (rule i) ∙ ap (λ K. lin 𝓥 K (rule i)) (fun-ext (λ m. ap L (monoid .mul-assoc w a m))) ∙ sym (lin-relabel 𝓥 (λ m. L (prod w m)) (prod a) (rule i))
 
   -- Σ c·x·line k
-  unfoldable pub combination : Poly F (M × I) → Poly F M
-  combination = expand R (λ x. multiple (x .0) (x .1))
+  unfoldable pub rulesCombined : Poly F (M × I) → Poly F M
+  rulesCombined = expand R (λ x. ruleMultiple (x .0) (x .1))
 
   -- The coefficient at k of the normal form is such a map.
   abbrev pub nfc : M → M → F
@@ -113,24 +117,24 @@ module _ {F M I : Type 0} {R : Arithmetic F} {𝓜 : Monomials M} (S : Rewriting
   unfolding coef self
   nfc-stuck k m h p = ap (λ f. coef R 𝓜 f k) (nf-stuck m h p) ∙ ring .add-zero _ ∙ self ring .act-one (δ R 𝓜 k m)
 
-  lin-multiple : (L : M → F) (u : M) (i : I) → lin (self ring) L (multiple u i) ≡ R .add (L (prod u (lead i))) (lin (self ring) L (relabel (prod u) (tail i)))
-  unfolding multiple line lin relabel self
+  lin-multiple : (L : M → F) (u : M) (i : I) → lin (self ring) L (ruleMultiple u i) ≡ R .add (L (prod u (lead i))) (lin (self ring) L (relabel (prod u) (tail i)))
+  unfolding ruleMultiple rule lin relabel self
   lin-multiple L u i = ap₂ (R .add) (self ring .act-one (L (prod u (lead i)))) refl
 
-  pub chosen : (k m : M) (i : I) (u : M) (e : m ≡ prod u (lead i)) → pick m ≡ found i u e → lin (self ring) (nfc k) (multiple u i) ≡ R .zero
-  chosen k m i u e p = lin-multiple (nfc k) u i ∙ ap₂ (R .add) (ap (nfc k) (sym e) ∙ nfc-found k m i u e p) refl ∙ ring .add-comm _ _ ∙ ring .add-neg _
+  pub chosen-vanishes : (k m : M) (i : I) (u : M) (e : m ≡ prod u (lead i)) → pick m ≡ found i u e → lin (self ring) (nfc k) (ruleMultiple u i) ≡ R .zero
+  chosen-vanishes k m i u e p = lin-multiple (nfc k) u i ∙ ap₂ (R .add) (ap (nfc k) (sym e) ∙ nfc-found k m i u e p) refl ∙ ring .add-comm _ _ ∙ ring .add-neg _
 
   -- The ideal: the span of the multiples.
   abbrev pub Member : (M → F) → Type 0
-  Member v = (c : Poly F (M × I)) × ((k : M) → v k ≡ coef R 𝓜 (combination c) k)
+  Member v = (c : Poly F (M × I)) × ((k : M) → v k ≡ coef R 𝓜 (rulesCombined c) k)
 
-  pub coef-combination : (c : Poly F (M × I)) (k : M) → coef R 𝓜 (combination c) k ≡ lin (self ring) (λ x. coef R 𝓜 (multiple (x .0) (x .1)) k) c
-  unfolding combination
-  coef-combination c k = coef-lin ring 𝓜 (combination c) k ∙ lin-expand (self ring) (δ R 𝓜 k) (λ x. multiple (x .0) (x .1)) c
-      ∙ ap (λ L. lin (self ring) L c) (fun-ext (λ x. sym (coef-lin ring 𝓜 (multiple (x .0) (x .1)) k)))
+  pub coef-combination : (c : Poly F (M × I)) (k : M) → coef R 𝓜 (rulesCombined c) k ≡ lin (self ring) (λ x. coef R 𝓜 (ruleMultiple (x .0) (x .1)) k) c
+  unfolding rulesCombined
+  coef-combination c k = coef-lin ring 𝓜 (rulesCombined c) k ∙ lin-expand (self ring) (δ R 𝓜 k) (λ x. ruleMultiple (x .0) (x .1)) c
+      ∙ ap (λ L. lin (self ring) L c) (fun-ext (λ x. sym (coef-lin ring 𝓜 (ruleMultiple (x .0) (x .1)) k)))
 
   pub member-zero : Member (λ _. R .zero)
-  unfolding combination coef expand lin self
+  unfolding rulesCombined coef expand lin self
   member-zero = ([], λ k. refl)
 
   pub member-add : (v w : M → F) → Member v → Member w → Member (λ k. R .add (v k) (w k))
@@ -145,7 +149,7 @@ module _ {F M I : Type 0} {R : Arithmetic F} {𝓜 : Monomials M} (S : Rewriting
   unfolding self
   member-neg v a = (negate R (a .0), λ k. ap (R .neg) (a .1 k ∙ coef-combination (a .0) k) ∙ sym (lin-negate (self ring) _ (a .0)) ∙ sym (coef-combination (negate R (a .0)) k))
 
-  pub member-multiple : (u : M) (i : I) → Member (λ k. coef R 𝓜 (multiple u i) k)
+  pub member-multiple : (u : M) (i : I) → Member (λ k. coef R 𝓜 (ruleMultiple u i) k)
   unfolding lin self
   member-multiple u i = ((R .one, (u, i)) ∷ [], λ k. sym (coef-combination ((R .one, (u, i)) ∷ []) k ∙ ring .add-zero _ ∙ self ring .act-one _))
 
@@ -172,16 +176,16 @@ module _ {F M I : Type 0} {R : Arithmetic F} {𝓜 : Monomials M} (S : Rewriting
       T : Poly F M
       T = relabel (prod u) (tail i)
 
-      eq : (k : M) → resid k m ≡ R .add (coef R 𝓜 (multiple u i) k) (R .neg (lin (self ring) (resid k) T))
+      eq : (k : M) → resid k m ≡ R .add (coef R 𝓜 (ruleMultiple u i) k) (R .neg (lin (self ring) (resid k) T))
       eq k = ap₂ (R .add) (ap (δ R 𝓜 k) e) (ap (R .neg) (nfc-found k m i u e q)) ∙ exchange-difference (self ring) (δ R 𝓜 k (prod u (lead i))) (coef R 𝓜 T k) (lin (self ring) (nfc k) T)
-          ∙ ap₂ (R .add) (sym (coef-lin ring 𝓜 (multiple u i) k ∙ lin-multiple (δ R 𝓜 k) u i ∙ ap (R .add _) (sym (coef-lin ring 𝓜 T k)))) (ap (R .neg) (sym (lin-resid T k)))
+          ∙ ap₂ (R .add) (sym (coef-lin ring 𝓜 (ruleMultiple u i) k ∙ lin-multiple (δ R 𝓜 k) u i ∙ ap (R .add _) (sym (coef-lin ring 𝓜 T k)))) (ap (R .neg) (sym (lin-resid T k)))
 
   pub residue-monomial : (m : M) → Member (λ k. resid k m)
   residue-monomial m = WellFounded·induction wf {C = λ m. Member (λ k. resid k m)} m (λ m ih. residue-step m ih (pick m) refl)
 
   -- A polynomial and its normal form differ by an element of the ideal.
-  pub residue : (f : Poly F M) → Member (λ k. R .add (coef R 𝓜 f k) (R .neg (coef R 𝓜 (NF f) k)))
-  residue f = member-same _ _ (λ k. ap (λ x. R .add (coef R 𝓜 f k) (R .neg x)) (NF-coef f k) ∙ sym (lin-resid f k)) (member-lin resid {f = f} (all-true residue-monomial f))
+  pub residue-member : (f : Poly F M) → Member (λ k. R .add (coef R 𝓜 f k) (R .neg (coef R 𝓜 (NF f) k)))
+  residue-member f = member-same _ _ (λ k. ap (λ x. R .add (coef R 𝓜 f k) (R .neg x)) (NF-coef f k) ∙ sym (lin-resid f k)) (member-lin resid {f = f} (all-true residue-monomial f))
 
   abbrev pub Irreducible : M → Type 0
   Irreducible m = (i : I) (u : M) → ¬ (m ≡ prod u (lead i))
@@ -207,13 +211,13 @@ module _ {F M I : Type 0} {R : Arithmetic F} {𝓜 : Monomials M} (S : Rewriting
 
   -- The ideal is closed under multiplication by a monomial.
   pub member-shift : (u : M) (f : Poly F M) → Member (coef R 𝓜 f) → Member (coef R 𝓜 (shift 𝓜 u f))
-  unfolding combination
+  unfolding rulesCombined
   member-shift u f a = (
     c′,
-    λ k. coef-shift ring 𝓜 u f k ∙ lin-same ring 𝓜 (self ring) (λ m. δ R 𝓜 k (prod u m)) f (combination (a .0)) (a .1)
-        ∙ lin-expand (self ring) (λ m. δ R 𝓜 k (prod u m)) (λ x. multiple (x .0) (x .1)) (a .0)
-        ∙ ap (λ L. lin (self ring) L (a .0)) (fun-ext (λ x. sym (multiple-prod (self ring) (δ R 𝓜 k) u (x .0) (x .1)) ∙ sym (coef-lin ring 𝓜 (multiple (prod u (x .0)) (x .1)) k)))
-        ∙ sym (lin-relabel (self ring) (λ x. coef R 𝓜 (multiple (x .0) (x .1)) k) move (a .0)) ∙ sym (coef-combination c′ k),
+    λ k. coef-shift ring 𝓜 u f k ∙ lin-same ring 𝓜 (self ring) (λ m. δ R 𝓜 k (prod u m)) f (rulesCombined (a .0)) (a .1)
+        ∙ lin-expand (self ring) (λ m. δ R 𝓜 k (prod u m)) (λ x. ruleMultiple (x .0) (x .1)) (a .0)
+        ∙ ap (λ L. lin (self ring) L (a .0)) (fun-ext (λ x. sym (multiple-prod (self ring) (δ R 𝓜 k) u (x .0) (x .1)) ∙ sym (coef-lin ring 𝓜 (ruleMultiple (prod u (x .0)) (x .1)) k)))
+        ∙ sym (lin-relabel (self ring) (λ x. coef R 𝓜 (ruleMultiple (x .0) (x .1)) k) move (a .0)) ∙ sym (coef-combination c′ k),
   )
     where
       move : M × I → M × I
@@ -224,4 +228,4 @@ module _ {F M I : Type 0} {R : Arithmetic F} {𝓜 : Monomials M} (S : Rewriting
 
   pub member-of-NF : (f : Poly F M) → ((k : M) → coef R 𝓜 (NF f) k ≡ R .zero) → Member (coef R 𝓜 f)
   unfolding self
-  member-of-NF f h = member-same _ _ (λ k. sym (ap (λ x. R .add (coef R 𝓜 f k) (R .neg x)) (h k) ∙ ap (R .add (coef R 𝓜 f k)) (opposite-null (self ring)) ∙ ring .add-zero _)) (residue f)
+  member-of-NF f h = member-same _ _ (λ k. sym (ap (λ x. R .add (coef R 𝓜 f k) (R .neg x)) (h k) ∙ ap (R .add (coef R 𝓜 f k)) (opposite-null (self ring)) ∙ ring .add-zero _)) (residue-member f)

@@ -1,5 +1,5 @@
 -- Polynomials written in order, from their coefficients at a rising list of monomials.
---   written field 𝓜 B G        the lines G, each with its tail in that order
+--   inOrder field 𝓜 B G        the lines G, each with its tail in that order
 -- Of nonzero-term: nonzero-term-cases
 -- Of ordered: ordered-all, ordered-among (its monomials), ordered-length, ordered-proper, ordered-falling (greatest first for a rising B), ordered-same (its coefficients)
 -- Of the coefficients of a polynomial in order: tail-all, tail-same (what holds of its monomials, and its coefficients, are kept)
@@ -10,17 +10,19 @@ use mathlib.Core.Logic.{_⊎_, inl, inr}
 use Prim.Native.Nat.{_≤_}
 use native.Mathlib.Omega.{arith}
 use lib.ListN.{length, length-append, length-map}
-use Rattle.residue.specs.Field.{Arithmetic, Field}
+use Rattle.lists.specs.Lists.{_∈_, Once}
+use Rattle.residue.specs.Field.{Arithmetic}
+use Rattle.residue.specs.RingLaws.{Field}
 use Rattle.monomial.specs.Ordering.{Monomials}
-use Rattle.groebner.specs.Polynomials.{_∈_, Poly, All, all-nil, all-cons, Polynomial, coef, Same}
-use Rattle.groebner.specs.Lines.{Once, Line, Falling}
+use Rattle.groebner.specs.Polynomials.{Poly, All, all-nil, all-cons, Polynomial, coef, Same}
+use Rattle.groebner.specs.Lines.{Line, Falling, RisingList}
+use Rattle.groebner.specs.RisingLists.{leads}
+use Rattle.groebner.specs.OrderedTails.{nonzero-term, ordered, ordered-line}
 use Rattle.groebner.proofs.Modules.{zero-add}
 use Rattle.groebner.proofs.Linear.{all-append, all-map}
 use Rattle.groebner.proofs.Lists.{in-map, of-map}
 use Rattle.groebner.proofs.Members.{member?}
 use Rattle.groebner.proofs.Terms.{all-at, find, coef-nil, coef-here, coef-there, coef-absent, coef-append}
-use Rattle.groebner.specs.RisingLists.{RisingList, leads}
-use Rattle.groebner.specs.OrderedTails.{nonzero-term, ordered, ordered-line}
 use Rattle.groebner.proofs.Coordinates.{Supported}
 
 -- One more term at the end.
@@ -36,9 +38,9 @@ module _ {F M : Type 0} {R : Arithmetic F} (field : Field R) where
   open Field field using (ring, decide)
 
   -- The lines with their tails in that order.
-  unfoldable pub written : Monomials M → List M → List (Line F M) → List (Line F M)
+  unfoldable pub inOrder : Monomials M → List M → List (Line F M) → List (Line F M)
   unfolding ordered
-  written 𝓜 B G = map (ordered-line field 𝓜 B) G
+  inOrder 𝓜 B G = map (ordered-line field 𝓜 B) G
 
   -- A property of it: where c is zero, of no term; where it is not, of c·m.
   pub nonzero-term-cases : (P : Poly F M → Type 0) (c : F) (m : M) → (c ≡ R .zero → P []) → (¬ (c ≡ R .zero) → P ((c, m) ∷ [])) → P (nonzero-term field c m)
@@ -121,20 +123,20 @@ module _ {F M : Type 0} {R : Arithmetic F} (field : Field R) where
     pub tail-same : Once B → (f : Poly F M) → All (λ m. m ∈ B) f → Same R 𝓜 (ordered field B (coef R 𝓜 f)) f
     tail-same o f a = ordered-same (coef R 𝓜 f) 𝓜 B o (λ m n. coef-absent ring 𝓜 f m (all-map (λ k i e. n (Memᴰ·cast (sym e) i)) a))
 
-    pub length-written : (G : List (Line F M)) → length (written 𝓜 B G) ≡ length G
-    unfolding written
+    pub length-written : (G : List (Line F M)) → length (inOrder 𝓜 B G) ≡ length G
+    unfolding inOrder
     length-written G = length-map G (ordered-line field 𝓜 B)
 
-    pub leads-written : (G : List (Line F M)) → leads (written 𝓜 B G) ≡ leads G
-    unfolding written
+    pub leads-written : (G : List (Line F M)) → leads (inOrder 𝓜 B G) ≡ leads G
+    unfolding inOrder
     leads-written [] = refl
     leads-written (g ∷ G) = ap (g .0 ∷_) (leads-written G)
 
     -- What holds of each line, written in order, holds of each of the written lines.
-    pub each-written : (P : Line F M → Type 0) (G : List (Line F M)) → ((g : Line F M) → g ∈ G → P (ordered-line field 𝓜 B g)) → (h : Line F M) → h ∈ written 𝓜 B G → P h
-    unfolding written
+    pub each-written : (P : Line F M → Type 0) (G : List (Line F M)) → ((g : Line F M) → g ∈ G → P (ordered-line field 𝓜 B g)) → (h : Line F M) → h ∈ inOrder 𝓜 B G → P h
+    unfolding inOrder
     each-written P G p h i = let g = of-map (ordered-line field 𝓜 B) G i in subst P (sym (g .2)) (p (g .0) (g .1))
 
-    pub of-written : (G : List (Line F M)) (g : Line F M) → g ∈ G → ordered-line field 𝓜 B g ∈ written 𝓜 B G
-    unfolding written
+    pub of-written : (G : List (Line F M)) (g : Line F M) → g ∈ G → ordered-line field 𝓜 B g ∈ inOrder 𝓜 B G
+    unfolding inOrder
     of-written G g i = in-map (ordered-line field 𝓜 B) i

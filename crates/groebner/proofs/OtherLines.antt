@@ -5,36 +5,40 @@
 --   groebner-by-freedom         H is a Groebner basis
 use mathlib.Core.Path.{_≡_, sym, subst}
 use mathlib.Core.List.{List, []}
-use Rattle.residue.specs.Field.{Arithmetic, Field}
-use Rattle.monomial.specs.Ordering.{Monomials, MonomialOrder}
-use Rattle.groebner.specs.Polynomials.{_∈_, Poly, Polynomial, coef}
-use Rattle.groebner.specs.Lines.{Line, polynomial, Low}
-use Rattle.groebner.specs.Remainders.{Finished, Remainder}
+use Rattle.lists.specs.Lists.{_∈_}
+use Rattle.residue.specs.Field.{Arithmetic}
+use Rattle.residue.specs.RingLaws.{Field}
+use Rattle.monomial.specs.Ordering.{Monomials}
+use Rattle.monomial.specs.OrderLaws.{MonomialOrder}
+use Rattle.groebner.specs.Polynomials.{Poly, Polynomial, coef}
+use Rattle.groebner.specs.Lines.{Line, polynomial}
+use Rattle.groebner.specs.Criteria.{Low}
+use Rattle.groebner.specs.Remainders.{Normal, Remainder}
 use Rattle.groebner.specs.Ideals.{IdealOf, SameIdeal}
 use Rattle.groebner.specs.Bases.{Groebner}
 use Rattle.groebner.proofs.Modules.{self, undo-difference}
 use Rattle.groebner.proofs.Terms.{clean, clean-proper, clean-same}
-use Rattle.groebner.proofs.NormalForms.{Rewriting, line, Member, member-add, member-neg, member-same}
+use Rattle.groebner.proofs.NormalForms.{Rewriting, rule, Member, member-add, member-neg, member-same}
 use Rattle.groebner.proofs.Ground.{PolynomialRing}
-use Rattle.groebner.proofs.Division.{Place, rewriting, remainder, remainder-proper, remainder-finished}
+use Rattle.groebner.proofs.Division.{LinePlace, rewriting, remainder, remainder-proper, remainder-finished}
 use Rattle.groebner.proofs.Ideals.{ideal-same, member-of-ideal, ideal-of-member}
 use Rattle.groebner.proofs.GroebnerBases.{remainder-member, ideal-of-zero, groebner-of-zero}
 use Rattle.groebner.proofs.Congruence.{into}
 
 module _ {F M : Type 0} {R : Arithmetic F} {𝓜 : Monomials M} {lt lt′ : M → M → Type 0} (𝓟 : PolynomialRing R 𝓜) (ord : MonomialOrder 𝓜 lt) (G : List (Line F M)) (low : Low lt G)
     (ord′ : MonomialOrder 𝓜 lt′) (H : List (Line F M)) (low′ : Low lt′ H)
-    (inside : (h : Line F M) → h ∈ H → IdealOf R 𝓜 G (polynomial R h)) (free : (f : Poly F M) → Polynomial R f → Finished 𝓜 H f → IdealOf R 𝓜 G f → f ≡ []) where
+    (inside : (h : Line F M) → h ∈ H → IdealOf R 𝓜 G (polynomial R h)) (free : (f : Poly F M) → Polynomial R f → Normal 𝓜 H f → IdealOf R 𝓜 G f → f ≡ []) where
   open PolynomialRing 𝓟 using (field)
   open Field field using (ring, decide)
 
-  abbrev S : Rewriting R 𝓜 (Place G)
+  abbrev S : Rewriting R 𝓜 (LinePlace G)
   S = rewriting 𝓟 ord G low
 
-  abbrev T : Rewriting R 𝓜 (Place H)
+  abbrev T : Rewriting R 𝓜 (LinePlace H)
   T = rewriting 𝓟 ord′ H low′
 
-  held : (j : Place H) → Member S (coef R 𝓜 (line T j))
-  unfolding line polynomial
+  held : (j : LinePlace H) → Member S (coef R 𝓜 (rule T j))
+  unfolding rule polynomial
   held j = member-of-ideal 𝓟 ord G low (polynomial R (j .0)) (inside (j .0) (j .1))
 
   pub ideal-into : (f : Poly F M) → IdealOf R 𝓜 H f → IdealOf R 𝓜 G f

@@ -11,27 +11,31 @@ use Prim.Native.Nat.{ℕ, zero, suc, _≤_, _<_}
 use native.Mathlib.Decide.{ℕ-discrete, decLe}
 use native.Mathlib.Omega.{arith}
 use lib.ListN.{length, length-map}
+use Rattle.lists.specs.Lists.{_∈_, Once}
+use Rattle.lists.specs.Pairs.{Before}
 use Rattle.residue.specs.Field.{Arithmetic}
-use Rattle.monomial.specs.Rows.{Row, exponent}
-use Rattle.monomial.specs.Ordering.{Divides, rows, row?, MonomialOrder}
+use Rattle.monomial.specs.Rows.{Row, exponent, power}
+use Rattle.monomial.specs.Ordering.{Divides, monomials, row?}
+use Rattle.monomial.specs.OrderLaws.{MonomialOrder}
 use Rattle.monomial.proofs.Products.{exponent-product, divisible-at}
-use Rattle.groebner.specs.Polynomials.{_∈_, All, all-cons}
-use Rattle.groebner.specs.Lines.{Once, Before, Line, polynomial, Low}
-use Rattle.groebner.specs.Bases.{Clear, Groebner}
-use Rattle.groebner.specs.Standard.{power, ZeroDimensional}
+use Rattle.monomial.proofs.Powers.{exponent-power, exponent-power-other, power-divides}
+use Rattle.groebner.specs.Polynomials.{All, all-cons}
+use Rattle.groebner.specs.Lines.{Line, polynomial}
+use Rattle.groebner.specs.Bases.{Groebner}
+use Rattle.groebner.specs.Criteria.{Clear, Low}
+use Rattle.groebner.specs.Standard.{ZeroDimensional}
 use Rattle.groebner.proofs.Ground.{PolynomialRing}
 use Rattle.groebner.proofs.Lists.{pigeon, in-map, of-map}
 use Rattle.groebner.proofs.Members.{member?}
 use Rattle.groebner.proofs.Buchberger.{before-or, before-in}
-use Rattle.groebner.proofs.Powers.{exponent-power, exponent-power-other, power-divides}
 use Rattle.groebner.proofs.CoprimeLeads.{Coprime, coprime-groebner}
 
-pub powers-coprime : (n i j e f : ℕ) → ¬ (i ≡ j) → Coprime (rows n) (power n i e) (power n j f)
-unfolding rows
+pub powers-coprime : (n i j e f : ℕ) → ¬ (i ≡ j) → Coprime (monomials n) (power n i e) (power n j f)
+unfolding monomials
 powers-coprime n i j e f q = record {
-  left = divisible-at n a (rows n .mul a b) .1 (λ v _. omega (arith, exponent-product n a b v));
-  right = divisible-at n b (rows n .mul a b) .1 (λ v _. omega (arith, exponent-product n a b v));
-  least = λ k x y. divisible-at n (rows n .mul a b) k .1 (λ v h. by-cases (ℕ-discrete v i)
+  left = divisible-at n a (monomials n .mul a b) .1 (λ v _. omega (arith, exponent-product n a b v));
+  right = divisible-at n b (monomials n .mul a b) .1 (λ v _. omega (arith, exponent-product n a b v));
+  least = λ k x y. divisible-at n (monomials n .mul a b) k .1 (λ v h. by-cases (ℕ-discrete v i)
       (λ p. omega (arith, exponent-product n a b v, divisible-at n a k .0 x v h, exponent-power-other n j f v (λ r. q (sym p ∙ r))))
       (λ p. omega (arith, exponent-product n a b v, divisible-at n b k .0 y v h, exponent-power-other n i e v p)));
 }
@@ -42,12 +46,12 @@ powers-coprime n i j e f q = record {
     b : Row n
     b = power n j f
 
-module _ {F : Type 0} (R : Arithmetic F) (n : ℕ) (G : List (Line F (Row n))) (dimension : ZeroDimensional n G) (clear : Clear R (rows n) G) where
+module _ {F : Type 0} (R : Arithmetic F) (n : ℕ) (G : List (Line F (Row n))) (dimension : ZeroDimensional n G) (clear : Clear R (monomials n) G) where
   leads : List (Row n)
   leads = map (λ (g : Line F (Row n)). g .0) G
 
   -- Of two lines, no leading monomial divides the other.
-  apart : (f g : Line F (Row n)) → Before f g G → (¬ Divides (rows n) (g .0) (f .0)) × (¬ Divides (rows n) (f .0) (g .0))
+  apart : (f g : Line F (Row n)) → Before f g G → (¬ Divides (monomials n) (g .0) (f .0)) × (¬ Divides (monomials n) (f .0) (g .0))
   unfolding polynomial
   apart f g b = (first f (clear f g b .0), first g (clear f g b .1))
     where
@@ -73,11 +77,11 @@ module _ {F : Type 0} (R : Arithmetic F) (n : ℕ) (G : List (Line F (Row n))) (
         at : (h : Line F (Row n)) × h ∈ G × (x ≡ h .0) → ⊥
         at (h, p, e) = go (before-or h f G p (before-in f g G b .0))
           where
-            divides : (m : Row n) → Divides (rows n) (h .0) m
+            divides : (m : Row n) → Divides (monomials n) (h .0) m
             divides m = divisible-at n (h .0) m .1 (λ v l. omega (arith, z v l, ap (λ y. exponent n y v) e))
 
             go : (h ≡ f) ⊎ (Before h f G ⊎ Before f h G) → ⊥
-            go (inl w) = apart f g b .1 (subst (λ (y : Line F (Row n)). Divides (rows n) (y .0) (g .0)) w (divides (g .0)))
+            go (inl w) = apart f g b .1 (subst (λ (y : Line F (Row n)). Divides (monomials n) (y .0) (g .0)) w (divides (g .0)))
             go (inr (inl w)) = apart h f w .1 (divides (f .0))
             go (inr (inr w)) = apart f h w .0 (divides (f .0))
 
@@ -100,7 +104,7 @@ module _ {F : Type 0} (R : Arithmetic F) (n : ℕ) (G : List (Line F (Row n))) (
             there x (i, l, w, j) = (i, omega arith, w, j)
 
   module _ (square : length G ≡ n) where
-    pub square-coprime : (f g : Line F (Row n)) → Before f g G → Coprime (rows n) (f .0) (g .0)
+    pub square-coprime : (f g : Line F (Row n)) → Before f g G → Coprime (monomials n) (f .0) (g .0)
     unfolding leads
     square-coprime f g b = go (each (f .0) (in-map (λ (g : Line F (Row n)). g .0) (before-in f g G b .0))) (each (g .0) (in-map (λ (g : Line F (Row n)). g .0) (before-in f g G b .1)))
       where
@@ -115,13 +119,13 @@ module _ {F : Type 0} (R : Arithmetic F) (n : ℕ) (G : List (Line F (Row n))) (
         each x i = by-cases (member? (row? n) x (all .0)) (all .1 .powers x)
             (λ new. absurd (omega (arith, pigeon (x ∷ all .0) leads (new, all .1 .once) (inside x i), length-map G (λ (g : Line F (Row n)). g .0), all .1 .size, square)))
 
-        smaller : (i : ℕ) → i < n → (d e : ℕ) → d ≤ e → Divides (rows n) (power n i d) (power n i e)
+        smaller : (i : ℕ) → i < n → (d e : ℕ) → d ≤ e → Divides (monomials n) (power n i d) (power n i e)
         smaller i l d e h = power-divides n i l d (power n i e) .1 (omega (arith, exponent-power n i e l))
 
-        go : PowerBefore n (f .0) → PowerBefore n (g .0) → Coprime (rows n) (f .0) (g .0)
+        go : PowerBefore n (f .0) → PowerBefore n (g .0) → Coprime (monomials n) (f .0) (g .0)
         go (i, l, (d, p), _) (j, m, (e, q), _) = rw (p, q) (powers-coprime n i j d e (λ t. by-cases (decLe d e)
             (λ h. apart f g b .1 (rw (p, q, ← t) (smaller i l d e h))) (λ h. apart f g b .0 (rw (p, q, ← t) (smaller i l e d (omega arith))))))
 
     -- The lines are a Groebner basis, with any order.
-    pub square-groebner : PolynomialRing R (rows n) → {lt : Row n → Row n → Type 0} → MonomialOrder (rows n) lt → Low lt G → Groebner R (rows n) lt G
+    pub square-groebner : PolynomialRing R (monomials n) → {lt : Row n → Row n → Type 0} → MonomialOrder (monomials n) lt → Low lt G → Groebner R (monomials n) lt G
     square-groebner 𝓟 ord low = coprime-groebner 𝓟 ord G low square-coprime

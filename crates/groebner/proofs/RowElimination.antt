@@ -1,19 +1,20 @@
 -- Row elimination as a function to compute with, over vectors and combinations as a program holds them, and that it is an Elimination.
---   Pivot 𝓐 D w o              o is a place below D where the vector w is not zero, or none and w is zero
---   Vectors 𝓐 D                vectors as a program holds them
---   Combinations 𝓥 L D         combinations of the images of found monomials as a program holds them
---   Rows 𝓡 𝓒                   the state: augmented rows with their pivots
---   subtract-row 𝓡 𝓒 x c y     x - c·y, of the vector and of the combination
---   multiply-row 𝓡 𝓒 c x       c·x, of the vector and of the combination
---   reduce-row 𝓡 𝓒 rs v x      x less each row times v's entry at its pivot
---   clear-row 𝓡 𝓒 q r          the row r less the multiple of q that makes it zero at q's pivot
---   insert-row 𝓡 𝓒 q rs        the rows cleared at q's pivot, and then q
+--   Pivot 𝓐 D w o                   o is a place below D where the vector w is not zero, or none and w is zero
+--   Vectors 𝓐 D                     vectors as a program holds them
+--   Combinations 𝓥 L D              combinations of the images of found monomials as a program holds them
+--   EliminationRow 𝓡 𝓒              a vector with its combination
+--   Rows 𝓡 𝓒                        the state: augmented rows with their pivots
+--   subtract-row 𝓡 𝓒 x c y          x - c·y, of the vector and of the combination
+--   multiply-augmented 𝓡 𝓒 c x      c·x, of the vector and of the combination
+--   reduce-row 𝓡 𝓒 rs v x           x less each row times v's entry at its pivot
+--   clear-row 𝓡 𝓒 q r               the row r less the multiple of q that makes it zero at q's pivot
+--   insert-row 𝓡 𝓒 q rs             the rows cleared at q's pivot, and then q
 --   pivot-step 𝓡 𝓒 inverse rs x     for what is left, x: its combination if the vector is zero, else the rows with x made one at a pivot
 --   add-vector 𝓡 𝓒 inverse rs k v   the answer to v after k monomials
---   answer 𝓡 𝓒 B o             that answer with its combination as a polynomial
---   meaning 𝓡 𝓒 r              a row as a vector of the module with its pivot
---   Sound 𝓡 𝓒 B x              the vector of x is the combination of x, over the monomials B
---   Holds 𝓡 𝓒 rs B             the rows are in reduced echelon form for the images of B, and each is sound
+--   elimination-answer 𝓡 𝓒 B o      that answer with its combination as a polynomial
+--   meaning 𝓡 𝓒 r                   a row as a vector of the module with its pivot
+--   SoundElimination 𝓡 𝓒 B x        the vector of x is the combination of x, over the monomials B
+--   Holds 𝓡 𝓒 rs B                  the rows are in reduced echelon form for the images of B, and each is sound
 -- add-vector-holds: the answer is right; elimination: so row elimination is an Elimination
 use mathlib.Core.Path.{_≡_, refl, sym, _∙_, ap, ap₂, subst}
 use mathlib.Core.List.{List, [], _∷_, _++_, map, List·Memᴰ·head, List·Memᴰ·tail, List·Memᴰ·not-nil}
@@ -22,15 +23,16 @@ use mathlib.Core.Option.{Option, none, some}
 use Prim.Native.Nat.{ℕ, suc, _<_}
 use native.Mathlib.Omega.{arith}
 use lib.ListN.{length, length-append}
+use Rattle.lists.specs.Lists.{_∈_}
 use Rattle.residue.specs.Field.{Arithmetic}
-use Rattle.groebner.specs.Polynomials.{_∈_, Poly, All}
+use Rattle.groebner.specs.Polynomials.{Poly, All}
+use Rattle.groebner.specs.CoefficientRows.{Pivoted, Augmented}
 use Rattle.groebner.proofs.Modules.{Module, neg-act, opposite-null, opposite-plus, opposite-opposite, opposite-unique}
 use Rattle.groebner.proofs.Linear.{lin}
 use Rattle.groebner.proofs.Members.{each-inserted}
-use Rattle.groebner.proofs.Spans.{Span}
-use Rattle.groebner.proofs.Elimination.{Added, Elimination}
-use Rattle.groebner.specs.CoefficientRows.{Pivoted, Augmented}
-use Rattle.groebner.proofs.Echelon.{CoordinateFunctions, subtract, part, reduce, new-row, insert, at-null, Echelon, reduce-span, few-rows, add-row, no-rows}
+use Rattle.groebner.proofs.Spans.{LinearSpan}
+use Rattle.groebner.proofs.Elimination.{AddedVector, Elimination}
+use Rattle.groebner.proofs.Echelon.{CoordinateFunctions, subtract, partOf, reduceBy, new-row, insertRow, at-null, Echelon, reduce-span, few-rows, add-row, no-rows}
 
 -- A place below D where w is not zero; there is none only if w is zero.
 abbrev pub Pivot : {F W : Type 0} {R : Arithmetic F} {𝓥 : Module R W} → CoordinateFunctions 𝓥 → ℕ → W → Option ℕ → Type 0
@@ -81,40 +83,40 @@ module _ {F M W : Type 0} {R : Arithmetic F} {𝓥 : Module R W} {𝓐 : Coordin
   open Vectors 𝓡 using (Vector, value, entry)
   open Combinations 𝓒 using (Combination, terms)
 
-  abbrev pub AugmentedRow : Type 0
-  AugmentedRow = Augmented Vector Combination
+  abbrev pub EliminationRow : Type 0
+  EliminationRow = Augmented Vector Combination
 
   abbrev pub Rows : Type 0
-  Rows = List (Pivoted AugmentedRow)
+  Rows = List (Pivoted EliminationRow)
 
   -- x - c·y
-  abbrev pub subtract-row : AugmentedRow → F → AugmentedRow → AugmentedRow
+  abbrev pub subtract-row : EliminationRow → F → EliminationRow → EliminationRow
   subtract-row x c y = record { vector = 𝓡 .subtract-multiple (x .vector) c (y .vector); combination = 𝓒 .subtract-multiple (x .combination) c (y .combination) }
 
   -- c·x
-  abbrev pub multiply-row : F → AugmentedRow → AugmentedRow
-  multiply-row c x = record { vector = 𝓡 .multiply c (x .vector); combination = 𝓒 .multiply c (x .combination) }
+  abbrev pub multiply-augmented : F → EliminationRow → EliminationRow
+  multiply-augmented c x = record { vector = 𝓡 .multiply c (x .vector); combination = 𝓒 .multiply c (x .combination) }
 
   -- x less each row times v's entry at its pivot.
-  unfoldable pub reduce-row : Rows → Vector → AugmentedRow → AugmentedRow
+  unfoldable pub reduce-row : Rows → Vector → EliminationRow → EliminationRow
   reduce-row [] v x = x
   reduce-row (r ∷ rs) v x = reduce-row rs v (subtract-row x (entry v (r .pivot)) (r .row))
 
   -- The row r cleared at q's pivot.
-  abbrev pub clear-row : Pivoted AugmentedRow → Pivoted AugmentedRow → Pivoted AugmentedRow
+  abbrev pub clear-row : Pivoted EliminationRow → Pivoted EliminationRow → Pivoted EliminationRow
   clear-row q r = record { row = subtract-row (r .row) (entry (r .row .vector) (q .pivot)) (q .row); pivot = r .pivot }
 
   -- One more row; the others are cleared at its pivot.
-  unfoldable pub insert-row : Pivoted AugmentedRow → Rows → Rows
+  unfoldable pub insert-row : Pivoted EliminationRow → Rows → Rows
   insert-row q rs = map (clear-row q) rs ++ (q ∷ [])
 
   module _ (inverse : F → F) where
     -- For what is left, x: its combination if the vector is zero, else the rows with x made one at a pivot.
-    unfoldable pub pivot-step : Rows → AugmentedRow → Combination ⊎ Rows
+    unfoldable pub pivot-step : Rows → EliminationRow → Combination ⊎ Rows
     unfolding insert-row
     pivot-step rs x = elim (𝓡 .find-pivot (x .vector)) [
       | none ↦ inl (𝓒 .multiply (R .neg (R .one)) (x .combination))
-      | some p ↦ inr (insert-row (record { row = multiply-row (inverse (entry (x .vector) p)) x; pivot = p }) rs)
+      | some p ↦ inr (insert-row (record { row = multiply-augmented (inverse (entry (x .vector) p)) x; pivot = p }) rs)
     ]
 
     -- The answer to v after k monomials: the combination that it is, or the rows with one more.
@@ -123,27 +125,27 @@ module _ {F M W : Type 0} {R : Arithmetic F} {𝓥 : Module R W} {𝓐 : Coordin
     add-vector rs k v = pivot-step rs (reduce-row rs v (record { vector = v; combination = 𝓒 .unit k }))
 
   -- The answer with its combination as a polynomial over the monomials found.
-  abbrev pub answer : List M → Combination ⊎ Rows → Poly F M ⊎ Rows
-  answer B (inl c) = inl (terms B c)
-  answer B (inr rs) = inr rs
+  abbrev pub elimination-answer : List M → Combination ⊎ Rows → Poly F M ⊎ Rows
+  elimination-answer B (inl c) = inl (terms B c)
+  elimination-answer B (inr rs) = inr rs
 
   -- The rows as vectors of the module.
-  abbrev pub meaning : Pivoted AugmentedRow → Pivoted W
+  abbrev pub meaning : Pivoted EliminationRow → Pivoted W
   meaning r = record { row = value (r .row .vector); pivot = r .pivot }
 
   -- The vector of x is the combination of x.
-  pub record Sound (B : List M) (x : AugmentedRow) : Type 0 where
+  pub record SoundElimination (B : List M) (x : EliminationRow) : Type 0 where
     pub vector-fits : 𝓡 .Fits (x .vector)
     pub combination-fits : 𝓒 .Fits (length B) (x .combination)
     pub combined : value (x .vector) ≡ lin 𝓥 L (terms B (x .combination))
 
   pub record Holds (rs : Rows) (B : List M) : Type 0 where
     pub echelon : Echelon 𝓐 L D (map meaning rs) B
-    pub sound : (r : Pivoted AugmentedRow) → r ∈ rs → Sound B (r .row)
+    pub sound : (r : Pivoted EliminationRow) → r ∈ rs → SoundElimination B (r .row)
 
   -- What subtracting rows keeps.
-  reduce-keeps : {P Q : AugmentedRow → Type 0} → ((x : AugmentedRow) (c : F) (y : AugmentedRow) → P x → Q y → P (subtract-row x c y)) → (rs : Rows) → ((r : Pivoted AugmentedRow) → r ∈ rs → Q (r .row))
-      → (v : Vector) (x : AugmentedRow) → P x → P (reduce-row rs v x)
+  reduce-keeps : {P Q : EliminationRow → Type 0} → ((x : EliminationRow) (c : F) (y : EliminationRow) → P x → Q y → P (subtract-row x c y)) → (rs : Rows) → ((r : Pivoted EliminationRow) → r ∈ rs → Q (r .row))
+      → (v : Vector) (x : EliminationRow) → P x → P (reduce-row rs v x)
   unfolding reduce-row
   reduce-keeps k [] h v x p = p
   reduce-keeps k (r ∷ rs) h v x p = reduce-keeps k rs (λ s i. h s (List·Memᴰ·tail i)) v _ (k x _ (r .row) p (h r (List·Memᴰ·head refl)))
@@ -151,24 +153,24 @@ module _ {F M W : Type 0} {R : Arithmetic F} {𝓥 : Module R W} {𝓐 : Coordin
   value-clear : (x v : Vector) (p : ℕ) (y : Vector) → value (𝓡 .subtract-multiple x (entry v p) y) ≡ subtract 𝓥 (value x) (𝓐 .at p (value v)) (value y)
   value-clear x v p y = 𝓡 .value-subtract x _ y ∙ ap (λ c. subtract 𝓥 (value x) c (value y)) (𝓡 .entry-at v p)
 
-  value-reduce : (rs : Rows) (v : Vector) (x : AugmentedRow) → value (reduce-row rs v x .vector) ≡ 𝓥 .plus (value (x .vector)) (𝓥 .opposite (part 𝓐 (map meaning rs) (value v)))
-  unfolding reduce-row part
+  value-reduce : (rs : Rows) (v : Vector) (x : EliminationRow) → value (reduce-row rs v x .vector) ≡ 𝓥 .plus (value (x .vector)) (𝓥 .opposite (partOf 𝓐 (map meaning rs) (value v)))
+  unfolding reduce-row partOf
   value-reduce [] v x = sym (ap (𝓥 .plus _) (opposite-null 𝓥) ∙ 𝓥 .plus-null _)
   value-reduce (r ∷ rs) v x = value-reduce rs v _ ∙ ap₂ (𝓥 .plus) (value-clear (x .vector) v (r .pivot) (r .row .vector)) refl ∙ 𝓥 .plus-assoc _ _ _ ∙ ap (𝓥 .plus _) (sym (opposite-plus 𝓥 _ _))
 
-  meaning-insert : (q : Pivoted AugmentedRow) (rs : Rows) → map meaning (insert-row q rs) ≡ insert 𝓐 (meaning q) (map meaning rs)
+  meaning-insert : (q : Pivoted EliminationRow) (rs : Rows) → map meaning (insert-row q rs) ≡ insertRow 𝓐 (meaning q) (map meaning rs)
   unfolding insert-row
   meaning-insert q [] = refl
   meaning-insert q (r ∷ rs) = ap₂ _∷_ (λ i. record { row = value-clear (r .row .vector) (r .row .vector) (q .pivot) (q .row .vector) i; pivot = r .pivot }) (meaning-insert q rs)
 
-  sound-subtract : (B : List M) (x : AugmentedRow) (c : F) (y : AugmentedRow) → Sound B x → Sound B y → Sound B (subtract-row x c y)
+  sound-subtract : (B : List M) (x : EliminationRow) (c : F) (y : EliminationRow) → SoundElimination B x → SoundElimination B y → SoundElimination B (subtract-row x c y)
   sound-subtract B x c y s t = record {
     vector-fits = 𝓡 .fits-subtract _ c _ (s .vector-fits) (t .vector-fits);
     combination-fits = 𝓒 .fits-subtract _ _ c _ (s .combination-fits) (t .combination-fits);
     combined = 𝓡 .value-subtract _ c _ ∙ ap₂ (λ a b. subtract 𝓥 a c b) (s .combined) (t .combined) ∙ sym (𝓒 .value-subtract B _ c _);
   }
 
-  sound-multiply : (B : List M) (c : F) (x : AugmentedRow) → Sound B x → Sound B (multiply-row c x)
+  sound-multiply : (B : List M) (c : F) (x : EliminationRow) → SoundElimination B x → SoundElimination B (multiply-augmented c x)
   sound-multiply B c x s = record {
     vector-fits = 𝓡 .fits-multiply c _ (s .vector-fits);
     combination-fits = 𝓒 .fits-multiply _ c _ (s .combination-fits);
@@ -178,7 +180,7 @@ module _ {F M W : Type 0} {R : Arithmetic F} {𝓥 : Module R W} {𝓐 : Coordin
   fits-length : (B : List M) (m : M) (c : Combination) → 𝓒 .Fits (suc (length B)) c → 𝓒 .Fits (length (B ++ (m ∷ []))) c
   fits-length B m c f = subst (λ k. 𝓒 .Fits k c) (omega (arith, length-append B (m ∷ []))) f
 
-  sound-extend : (B : List M) (m : M) (x : AugmentedRow) → Sound B x → Sound (B ++ (m ∷ [])) x
+  sound-extend : (B : List M) (m : M) (x : EliminationRow) → SoundElimination B x → SoundElimination (B ++ (m ∷ [])) x
   sound-extend B m x s = record {
     vector-fits = s .vector-fits;
     combination-fits = fits-length B m _ (𝓒 .fits-extend _ _ (s .combination-fits));
@@ -187,34 +189,34 @@ module _ {F M W : Type 0} {R : Arithmetic F} {𝓥 : Module R W} {𝓐 : Coordin
 
   -- One vector v, the image of m, and what the rows leave of it.
   module _ (rs : Rows) (B : List M) (holds : Holds rs B) (m : M) (v : Vector) (image : value v ≡ L m) (fits : 𝓡 .Fits v) where
-    abbrev start : AugmentedRow
+    abbrev start : EliminationRow
     start = record { vector = v; combination = 𝓒 .unit (length B) }
 
-    abbrev left : AugmentedRow
+    abbrev left : EliminationRow
     left = reduce-row rs v start
 
     abbrev B′ : List M
     B′ = B ++ (m ∷ [])
 
-    left-value : value (left .vector) ≡ reduce 𝓐 (map meaning rs) (L m)
-    unfolding reduce
-    left-value = value-reduce rs v start ∙ ap (λ w. 𝓥 .plus w (𝓥 .opposite (part 𝓐 (map meaning rs) w))) image
+    left-value : value (left .vector) ≡ reduceBy 𝓐 (map meaning rs) (L m)
+    unfolding reduceBy
+    left-value = value-reduce rs v start ∙ ap (λ w. 𝓥 .plus w (𝓥 .opposite (partOf 𝓐 (map meaning rs) w))) image
 
     left-fits : 𝓡 .Fits (left .vector)
-    left-fits = reduce-keeps {P = λ x. 𝓡 .Fits (x .vector)} {Q = Sound B} (λ x c y p s. 𝓡 .fits-subtract _ c _ p (s .vector-fits)) rs (holds .sound) v start fits
+    left-fits = reduce-keeps {P = λ x. 𝓡 .Fits (x .vector)} {Q = SoundElimination B} (λ x c y p s. 𝓡 .fits-subtract _ c _ p (s .vector-fits)) rs (holds .sound) v start fits
 
     -- Over B alone: what is left is the image of m and its combination.
     left-before : value (left .vector) ≡ 𝓥 .plus (L m) (lin 𝓥 L (terms B (left .combination)))
-    left-before = reduce-keeps {P = Balanced} {Q = Sound B}
+    left-before = reduce-keeps {P = Balanced} {Q = SoundElimination B}
         (λ x c y p s. 𝓡 .value-subtract _ c _ ∙ ap₂ (λ a b. subtract 𝓥 a c b) p (s .combined) ∙ 𝓥 .plus-assoc _ _ _ ∙ ap (𝓥 .plus _) (sym (𝓒 .value-subtract B _ c _)))
         rs (holds .sound) v start (image ∙ sym (ap (𝓥 .plus _) (𝓒 .value-unit-before B) ∙ 𝓥 .plus-null _))
       where
-        Balanced : AugmentedRow → Type 0
+        Balanced : EliminationRow → Type 0
         Balanced x = value (x .vector) ≡ 𝓥 .plus (L m) (lin 𝓥 L (terms B (x .combination)))
 
     -- Over B and m: what is left is its combination.
-    left-sound : length B < D → Sound B′ left
-    left-sound l = reduce-keeps {P = Sound B′} {Q = Sound B′} (sound-subtract B′) rs (λ r i. sound-extend B m (r .row) (holds .sound r i)) v start (record {
+    left-sound : length B < D → SoundElimination B′ left
+    left-sound l = reduce-keeps {P = SoundElimination B′} {Q = SoundElimination B′} (sound-subtract B′) rs (λ r i. sound-extend B m (r .row) (holds .sound r i)) v start (record {
       vector-fits = fits;
       combination-fits = fits-length B m _ (𝓒 .fits-unit (length B) l);
       combined = image ∙ sym (𝓒 .value-unit B m l);
@@ -226,11 +228,11 @@ module _ {F M W : Type 0} {R : Arithmetic F} {𝓥 : Module R W} {𝓐 : Coordin
 
     -- Something is left: a new row.
     module _ (nontrivial : ¬ (R .one ≡ R .zero)) (p : ℕ) (d : F) (below : p < D) (inverse : R .mul d (𝓐 .at p (value (left .vector))) ≡ R .one) where
-      abbrev made : Pivoted AugmentedRow
-      made = record { row = multiply-row d left; pivot = p }
+      abbrev made : Pivoted EliminationRow
+      made = record { row = multiply-augmented d left; pivot = p }
 
       new-echelon : Echelon 𝓐 L D (map meaning (insert-row made rs)) B′
-      new-echelon = subst (λ ss. Echelon 𝓐 L D ss B′) (sym (meaning-insert made rs ∙ ap (λ q. insert 𝓐 q (map meaning rs)) is-new))
+      new-echelon = subst (λ ss. Echelon 𝓐 L D ss B′) (sym (meaning-insert made rs ∙ ap (λ q. insertRow 𝓐 q (map meaning rs)) is-new))
           (add-row 𝓐 L D (map meaning rs) B (holds .echelon) nontrivial m p d below (ap (λ w. R .mul d (𝓐 .at p w)) (sym left-value) ∙ inverse))
         where
           is-new : meaning made ≡ new-row 𝓐 (map meaning rs) (L m) p d
@@ -240,31 +242,31 @@ module _ {F M W : Type 0} {R : Arithmetic F} {𝓥 : Module R W} {𝓐 : Coordin
       unfolding insert-row
       new-holds = record {
         echelon = new-echelon;
-        sound = each-inserted (λ r. Sound B′ (r .row)) (clear-row made) rs made (λ r i. sound-subtract B′ _ _ _ (sound-old r i) sound-new) sound-new;
+        sound = each-inserted (λ r. SoundElimination B′ (r .row)) (clear-row made) rs made (λ r i. sound-subtract B′ _ _ _ (sound-old r i) sound-new) sound-new;
       }
         where
-          sound-new : Sound B′ (multiply-row d left)
+          sound-new : SoundElimination B′ (multiply-augmented d left)
           sound-new = sound-multiply B′ d left (left-sound (omega (arith, few-rows 𝓐 L D _ B′ new-echelon, length-append B (m ∷ []))))
 
-          sound-old : (r : Pivoted AugmentedRow) → r ∈ rs → Sound B′ (r .row)
+          sound-old : (r : Pivoted EliminationRow) → r ∈ rs → SoundElimination B′ (r .row)
           sound-old r i = sound-extend B m (r .row) (holds .sound r i)
 
   module _ (nontrivial : ¬ (R .one ≡ R .zero)) (inverse : F → F) (inverse-law : (c : F) → ¬ (c ≡ R .zero) → R .mul (inverse c) c ≡ R .one) where
     -- The answer to the image of m is right.
     pub add-vector-holds : (rs : Rows) (B : List M) → Holds rs B → (m : M) (v : Vector) → value v ≡ L m → 𝓡 .Fits v
-        → Added 𝓥 L Holds B m (answer B (add-vector inverse rs (length B) v))
+        → AddedVector 𝓥 L Holds B m (elimination-answer B (add-vector inverse rs (length B) v))
     unfolding add-vector pivot-step
     add-vector-holds rs B h m v e f = step (𝓡 .find-pivot (x .vector)) (𝓡 .pivot-found (x .vector) (left-fits rs B h m v e f))
       where
-        x : AugmentedRow
+        x : EliminationRow
         x = reduce-row rs v (record { vector = v; combination = 𝓒 .unit (length B) })
 
-        unspanned : (p : ℕ) → ¬ (𝓐 .at p (value (x .vector)) ≡ R .zero) → ¬ Span 𝓥 L (λ b. b ∈ B) (L m)
+        unspanned : (p : ℕ) → ¬ (𝓐 .at p (value (x .vector)) ≡ R .zero) → ¬ LinearSpan 𝓥 L (λ b. b ∈ B) (L m)
         unspanned p n s = n (ap (𝓐 .at p) (left-value rs B h m v e f ∙ reduce-span 𝓐 L D (map meaning rs) B (h .echelon) (L m) s) ∙ at-null 𝓐 p)
 
-        step : (o : Option ℕ) → Pivot 𝓐 D (value (x .vector)) o → Added 𝓥 L Holds B m (answer B (elim o [
+        step : (o : Option ℕ) → Pivot 𝓐 D (value (x .vector)) o → AddedVector 𝓥 L Holds B m (elimination-answer B (elim o [
           | none ↦ inl (𝓒 .multiply (R .neg (R .one)) (x .combination))
-          | some p ↦ inr (insert-row (record { row = multiply-row (inverse (entry (x .vector) p)) x; pivot = p }) rs)
+          | some p ↦ inr (insert-row (record { row = multiply-augmented (inverse (entry (x .vector) p)) x; pivot = p }) rs)
         ]))
         step none z = (𝓒 .terms-among B _, dependent rs B h m v e f z)
         step (some p) q = (
@@ -280,7 +282,7 @@ module _ {F M W : Type 0} {R : Arithmetic F} {𝓥 : Module R W} {𝓐 : Coordin
     elimination row image fits = record {
       State = Rows;
       start = [];
-      add = λ rs B m. answer B (add-vector inverse rs (length B) (row m));
+      add = λ rs B m. elimination-answer B (add-vector inverse rs (length B) (row m));
       Holds = Holds;
       start-holds = record { echelon = no-rows 𝓐 L D; sound = λ r i. absurd (List·Memᴰ·not-nil i) };
       add-holds = λ rs B m h. add-vector-holds rs B h m (row m) (image m) (fits m);

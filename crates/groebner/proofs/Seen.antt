@@ -22,19 +22,21 @@ use mathlib.Core.WellFounded.{WellFounded·induction}
 use Prim.Native.Nat.{ℕ, _+_, _*_, _≤_}
 use native.Mathlib.Omega.{arith}
 use lib.ListN.{length, length-append, length-map}
+use Rattle.lists.specs.Lists.{_∈_, Once}
 use Rattle.residue.specs.Field.{Arithmetic}
-use Rattle.monomial.specs.Rows.{Row, one}
-use Rattle.monomial.specs.Ordering.{Divides, MonomialOrder, rows}
+use Rattle.monomial.specs.Rows.{Row}
+use Rattle.monomial.specs.Ordering.{Divides, monomials}
+use Rattle.monomial.specs.OrderLaws.{MonomialOrder}
 use Rattle.monomial.proofs.AnyOrder.{irreflexive, divisor-below}
 use Rattle.monomial.proofs.Products.{rows-laws}
-use Rattle.groebner.specs.Polynomials.{_∈_, Poly, All, negate}
-use Rattle.groebner.specs.Lines.{Once, Line, polynomial, Reducible}
+use Rattle.groebner.specs.Polynomials.{Poly, All, negate}
+use Rattle.groebner.specs.Lines.{Line, polynomial, Reducible, RisingList}
+use Rattle.groebner.specs.RisingLists.{leads}
 use Rattle.groebner.proofs.Modules.{Module, opposite-unique}
 use Rattle.groebner.proofs.Ground.{divides-trans}
 use Rattle.groebner.proofs.Linear.{all-map, all-scale, lin, lin-negate}
 use Rattle.groebner.proofs.Lists.{once-append, of-map}
-use Rattle.groebner.proofs.Spans.{Span, span-one, span-trans, Dependent, Shifts, dependent-up}
-use Rattle.groebner.specs.RisingLists.{RisingList, leads}
+use Rattle.groebner.proofs.Spans.{LinearSpan, span-one, span-trans, Dependent, Shifts, dependent-up}
 use Rattle.groebner.proofs.RisingLists.{rising-append, rising-once, leads-append}
 use Rattle.groebner.proofs.Counting.{Divisors, few-above}
 use Rattle.groebner.proofs.Successors.{Successor, UpTo, Precedes, precedes-of-up-to, up-to-of-precedes}
@@ -59,7 +61,7 @@ module _ {F : Type 0} {R : Arithmetic F} (n : ℕ) {W : Type 0} (𝓥 : Module R
 
     -- The monomials that have P are seen: each is in B or a multiple of a leading monomial.
     pub record Seen (P : Row n → Type 0) (G : List (Line F (Row n))) (B : List (Row n)) : Type 0 where
-      pub cover : (k : Row n) → P k → (k ∈ B) ⊎ Reducible (rows n) G k
+      pub cover : (k : Row n) → P k → (k ∈ B) ⊎ Reducible (monomials n) G k
       pub standard : (b : Row n) → b ∈ B → P b × ¬ Dependent 𝓥 L lt b
       pub lines : (g : Line F (Row n)) → g ∈ G → P (g .0) × FoundLine B g
       pub rising-standard : RisingList lt B
@@ -111,8 +113,8 @@ module _ {F : Type 0} {R : Arithmetic F} (n : ℕ) {W : Type 0} (𝓥 : Module R
         g : Line F (Row n)
         g = (m, negate R f)
 
-        reach : (k : Row n) → UpTo lt m k → (k ∈ B) ⊎ Reducible (rows n) (G ++ (g ∷ [])) k
-        reach k (inl q) = inr (g, Memᴰ·append-right G (List·Memᴰ·head refl), (rows n .one, q ∙ sym (rows-laws n .one-mul m)))
+        reach : (k : Row n) → UpTo lt m k → (k ∈ B) ⊎ Reducible (monomials n) (G ++ (g ∷ [])) k
+        reach k (inl q) = inr (g, Memᴰ·append-right G (List·Memᴰ·head refl), (monomials n .one, q ∙ sym (rows-laws n .one-mul m)))
         reach k (inr l) = elim (v .cover k l) [ inl i ↦ inl i | inr r ↦ inr (r .0, Memᴰ·append-left (g ∷ []) (r .1), r .2) ]
 
         new : FoundLine B g
@@ -122,7 +124,7 @@ module _ {F : Type 0} {R : Arithmetic F} (n : ℕ) {W : Type 0} (𝓥 : Module R
         at h (inl i) = (inr (v .lines h i .0), v .lines h i .1)
         at h (inr i) = rw (List·Memᴰ·eq-of-singleton i) (inl refl, new)
 
-  module _ {lt : Row n → Row n → Type 0} (ord : MonomialOrder (rows n) lt) where
+  module _ {lt : Row n → Row n → Type 0} (ord : MonomialOrder (monomials n) lt) where
     -- On to the next monomial to visit, or to the end.
     pub seen-onward : (m : Row n) (G : List (Line F (Row n))) (B : List (Row n)) → Seen lt (UpTo lt m) G B
         → (x : Option (Row n)) → Successor lt (reducible n G) m x → Seen lt (Precedes lt x) G B
@@ -137,13 +139,13 @@ module _ {F : Type 0} {R : Arithmetic F} (n : ℕ) {W : Type 0} (𝓥 : Module R
         on : (k : Row n) → UpTo lt m k → Precedes lt x k
         on = precedes-of-up-to ord (reducible n G) m x s
 
-        at : (k : Row n) → UpTo lt m k ⊎ (reducible n G k ≡ true) → (k ∈ B) ⊎ Reducible (rows n) G k
+        at : (k : Row n) → UpTo lt m k ⊎ (reducible n G k ≡ true) → (k ∈ B) ⊎ Reducible (monomials n) G k
         at k (inl u) = v .cover k u
         at k (inr e) = inr (reducible-iff n G k .0 e)
 
     -- Where all that is smaller than k is in B or reducible, and no divisor of k is reducible.
-    divisors-among : (k : Row n) (G : List (Line F (Row n))) (B : List (Row n)) → ((d : Row n) → lt d k → (d ∈ B) ⊎ Reducible (rows n) G d)
-        → ((d : Row n) → Divides (rows n) d k → ¬ Reducible (rows n) G d) → Divisors n k B
+    divisors-among : (k : Row n) (G : List (Line F (Row n))) (B : List (Row n)) → ((d : Row n) → lt d k → (d ∈ B) ⊎ Reducible (monomials n) G d)
+        → ((d : Row n) → Divides (monomials n) d k → ¬ Reducible (monomials n) G d) → Divisors n k B
     divisors-among k G B cover free d p q = at (divisor-below (rows-laws n) ord p)
       where
         at : (d ≡ k) ⊎ lt d k → d ∈ B
@@ -151,28 +153,28 @@ module _ {F : Type 0} {R : Arithmetic F} (n : ℕ) {W : Type 0} (𝓥 : Module R
         at (inr l) = ⊎-elim (λ i. i) (λ r. absurd (free d p r)) (cover d l)
 
     -- m is visited where all smaller monomials are seen and no leading monomial divides m.
-    pub visited-divisors : (m : Row n) (G : List (Line F (Row n))) (B : List (Row n)) → SeenBelow lt m G B → ¬ Reducible (rows n) G m → Divisors n m B
+    pub visited-divisors : (m : Row n) (G : List (Line F (Row n))) (B : List (Row n)) → SeenBelow lt m G B → ¬ Reducible (monomials n) G m → Divisors n m B
     visited-divisors m G B v free = divisors-among m G B (v .cover) (λ d p r. free (r .0, r .1, divides-trans (rows-laws n) (r .2) p))
 
-    module _ (shifts : Shifts 𝓥 L (rows n)) where
-      pub reducible-dependent : (P : Row n → Type 0) (G : List (Line F (Row n))) (B : List (Row n)) → Seen lt P G B → (k : Row n) → Reducible (rows n) G k → Dependent 𝓥 L lt k
+    module _ (shifts : Shifts 𝓥 L (monomials n)) where
+      pub reducible-dependent : (P : Row n → Type 0) (G : List (Line F (Row n))) (B : List (Row n)) → Seen lt P G B → (k : Row n) → Reducible (monomials n) G k → Dependent 𝓥 L lt k
       reducible-dependent P G B v k r = dependent-up 𝓥 L ord shifts (r .0 .0) k (r .2) (line-dependent lt B (r .0) (v .lines (r .0) (r .1) .1))
 
       -- The images of what is seen are combinations of those of B.
       pub seen-span : (P : Row n → Type 0) → Downward lt P → (G : List (Line F (Row n))) (B : List (Row n)) → Seen lt P G B
-          → (k : Row n) → P k → Span 𝓥 L (λ b. b ∈ B) (L k)
-      seen-span P down G B v k = WellFounded·induction (ord .wf) {C = λ k. P k → Span 𝓥 L (λ b. b ∈ B) (L k)} k each
+          → (k : Row n) → P k → LinearSpan 𝓥 L (λ b. b ∈ B) (L k)
+      seen-span P down G B v k = WellFounded·induction (ord .wf) {C = λ k. P k → LinearSpan 𝓥 L (λ b. b ∈ B) (L k)} k each
         where
-          each : (k : Row n) → ((y : Row n) → lt y k → P y → Span 𝓥 L (λ b. b ∈ B) (L y)) → P k → Span 𝓥 L (λ b. b ∈ B) (L k)
+          each : (k : Row n) → ((y : Row n) → lt y k → P y → LinearSpan 𝓥 L (λ b. b ∈ B) (L y)) → P k → LinearSpan 𝓥 L (λ b. b ∈ B) (L k)
           each k below p = at (v .cover k p)
             where
-              at : (k ∈ B) ⊎ Reducible (rows n) G k → Span 𝓥 L (λ b. b ∈ B) (L k)
+              at : (k ∈ B) ⊎ Reducible (monomials n) G k → LinearSpan 𝓥 L (λ b. b ∈ B) (L k)
               at (inl i) = span-one 𝓥 L k i
               at (inr r) = span-trans 𝓥 L (λ y l. below y l (down y k l p)) (reducible-dependent P G B v k r)
 
       -- A visited monomial whose image does not depend on those of B joins B.
       pub seen-standard : (m : Row n) (G : List (Line F (Row n))) (B : List (Row n)) → SeenBelow lt m G B
-          → ¬ Span 𝓥 L (λ k. k ∈ B) (L m) → Seen lt (UpTo lt m) G (B ++ (m ∷ []))
+          → ¬ LinearSpan 𝓥 L (λ k. k ∈ B) (L m) → Seen lt (UpTo lt m) G (B ++ (m ∷ []))
       seen-standard m G B v h = record {
         cover = reach;
         standard = λ b i. at b (List·Memᴰ·append-cases B i);
@@ -181,7 +183,7 @@ module _ {F : Type 0} {R : Arithmetic F} (n : ℕ) {W : Type 0} (𝓥 : Module R
         rising-lines = v .rising-lines;
       }
         where
-          reach : (k : Row n) → UpTo lt m k → (k ∈ (B ++ (m ∷ []))) ⊎ Reducible (rows n) G k
+          reach : (k : Row n) → UpTo lt m k → (k ∈ (B ++ (m ∷ []))) ⊎ Reducible (monomials n) G k
           reach k (inl e) = inl (Memᴰ·append-right B (List·Memᴰ·head e))
           reach k (inr l) = elim (v .cover k l) [ inl i ↦ inl (Memᴰ·append-left (m ∷ []) i) | inr r ↦ inr r ]
 
@@ -217,7 +219,7 @@ module _ {F : Type 0} {R : Arithmetic F} (n : ℕ) {W : Type 0} (𝓥 : Module R
         found-few = omega (arith, length-found, few-above n B (leads G ++ B) seen-once seen-divisors)
 
       -- Before a visit there is room for one more.
-      pub visited-few : (m : Row n) (G : List (Line F (Row n))) (B : List (Row n)) → SeenBelow lt m G B → ¬ Reducible (rows n) G m → length G + length B ≤ n * length B
+      pub visited-few : (m : Row n) (G : List (Line F (Row n))) (B : List (Row n)) → SeenBelow lt m G B → ¬ Reducible (monomials n) G m → length G + length B ≤ n * length B
       visited-few m G B v free = omega (arith, length-found P down G B v, few-above n B (m ∷ (leads G ++ B)) (new, seen-once P down G B v) divisors)
         where
           P : Row n → Type 0

@@ -1,16 +1,18 @@
 -- Combinations of the images of monomials under a map L into a module, for any monomial ordering.
---   Span 𝓥 L P w            w is a combination of images of monomials that have P
---   Dependent 𝓥 L lt m      the image of m is a combination of images of smaller monomials
---   Shifts 𝓥 L 𝓜            what L says of a monomial it says of the monomial's multiples
+--   LinearSpan 𝓥 L P w   w is a combination of images of monomials that have P
+--   Dependent 𝓥 L lt m   the image of m is a combination of images of smaller monomials
+--   Shifts 𝓥 L 𝓜         what L says of a monomial it says of the monomial's multiples
 -- Of spans: span-one, span-on, span-trans
--- dependent-multiple: multiples of a dependent monomial are dependent, so independent monomials are closed under divisors
+-- dependent-multiple, dependent-up: multiples of a dependent monomial are dependent, so independent monomials are closed under divisors
 -- independent: the images of independent monomials are linearly independent
 use mathlib.Core.Path.{_≡_, refl, sym, _∙_, ap, ap₂, subst}
 use mathlib.Core.List.{[], _∷_, _++_}
 use mathlib.Core.Logic.{_⊎_, inl, inr}
 use mathlib.Core.WellFounded.{WellFounded·induction}
-use Rattle.residue.specs.Field.{Arithmetic, Field}
-use Rattle.monomial.specs.Ordering.{Monomials, Divides, MonomialOrder}
+use Rattle.residue.specs.Field.{Arithmetic}
+use Rattle.residue.specs.RingLaws.{Field}
+use Rattle.monomial.specs.Ordering.{Monomials, Divides}
+use Rattle.monomial.specs.OrderLaws.{MonomialOrder}
 use Rattle.groebner.specs.Polynomials.{Poly, All, all-nil, all-cons, scale, shift, δ, coef}
 use Rattle.groebner.proofs.Modules.{Module, null-plus, opposite-unique, zero-act, neg-act, act-opposite, opposite-opposite, mul-zero}
 use Rattle.groebner.proofs.Linear.{all-append, all-map, all-both, all-scale, all-relabel, all-without, without, without-off, lin, lin-append, lin-scale, lin-split, coef-split}
@@ -18,22 +20,22 @@ use Rattle.groebner.proofs.Terms.{coef-nil}
 
 module _ {F M : Type 0} {R : Arithmetic F} {W : Type 0} (𝓥 : Module R W) (L : M → W) where
   -- w is a combination of images of monomials that have P.
-  abbrev pub Span : (M → Type 0) → W → Type 0
-  Span P w = (f : Poly F M) × All P f × (w ≡ lin 𝓥 L f)
+  abbrev pub LinearSpan : (M → Type 0) → W → Type 0
+  LinearSpan P w = (f : Poly F M) × All P f × (w ≡ lin 𝓥 L f)
 
-  pub span-one : {P : M → Type 0} (m : M) → P m → Span P (L m)
+  pub span-one : {P : M → Type 0} (m : M) → P m → LinearSpan P (L m)
   unfolding lin
   span-one m p = ((R .one, m) ∷ [], all-cons p all-nil, sym (𝓥 .plus-null _ ∙ 𝓥 .act-one (L m)))
 
-  pub span-on : {P Q : M → Type 0} → ((m : M) → P m → Q m) → {w : W} → Span P w → Span Q w
+  pub span-on : {P Q : M → Type 0} → ((m : M) → P m → Q m) → {w : W} → LinearSpan P w → LinearSpan Q w
   span-on h s = (s .0, all-map h (s .1), s .2)
 
-  lin-span : {P Q : M → Type 0} → ((m : M) → P m → Span Q (L m)) → {f : Poly F M} → All P f → Span Q (lin 𝓥 L f)
+  lin-span : {P Q : M → Type 0} → ((m : M) → P m → LinearSpan Q (L m)) → {f : Poly F M} → All P f → LinearSpan Q (lin 𝓥 L f)
   unfolding lin
   lin-span h all-nil = ([], all-nil, refl)
   lin-span {Q = Q} h (all-cons {t = t} {f = f} p a) = step (h (t .1) p) (lin-span h a)
     where
-      step : Span Q (L (t .1)) → Span Q (lin 𝓥 L f) → Span Q (𝓥 .plus (𝓥 .act (t .0) (L (t .1))) (lin 𝓥 L f))
+      step : LinearSpan Q (L (t .1)) → LinearSpan Q (lin 𝓥 L f) → LinearSpan Q (𝓥 .plus (𝓥 .act (t .0) (L (t .1))) (lin 𝓥 L f))
       step s r = (
         scale R (t .0) (s .0) ++ r .0,
         all-append (all-scale R (t .0) (s .1)) (r .1),
@@ -41,15 +43,15 @@ module _ {F M : Type 0} {R : Arithmetic F} {W : Type 0} (𝓥 : Module R W) (L :
       )
 
   -- Combinations of combinations.
-  pub span-trans : {P Q : M → Type 0} → ((m : M) → P m → Span Q (L m)) → {w : W} → Span P w → Span Q w
+  pub span-trans : {P Q : M → Type 0} → ((m : M) → P m → LinearSpan Q (L m)) → {w : W} → LinearSpan P w → LinearSpan Q w
   span-trans {Q = Q} h {w} s = step (lin-span h (s .1))
     where
-      step : Span Q (lin 𝓥 L (s .0)) → Span Q w
+      step : LinearSpan Q (lin 𝓥 L (s .0)) → LinearSpan Q w
       step r = (r .0, r .1, s .2 ∙ r .2)
 
   -- The image of m is a combination of images of smaller monomials.
   abbrev pub Dependent : (M → M → Type 0) → M → Type 0
-  Dependent lt m = Span (λ k. lt k m) (L m)
+  Dependent lt m = LinearSpan (λ k. lt k m) (L m)
 
   -- An equation between images holds of the multiples too.
   abbrev pub Shifts : Monomials M → Type 0

@@ -1,18 +1,20 @@
 -- Coefficients of sums and multiples, and polynomials in good form: their terms are the coefficients that are not zero.
 --   clean 𝓜 decide f      f in good form: no monomial twice, no coefficient zero
 -- Of δ: δ-same, δ-other
--- Of coef: coef-cons, coef-nil, coef-here, coef-there, coef-absent, coef-append, coef-scale, coef-negate, coef-minus, coef-shift, coef-times
--- Of terms: all-at, all-of, find, coef-of-term, nonzero-of-term, term-of-coef
+-- Of coef: coef-cons, coef-nil, coef-here, coef-there, coef-absent, coef-append, coef-scale, coef-negate, coef-minus, coef-shift, coef-times, coef-without
+-- Of terms: all-at, all-of, find, coef-of-term, nonzero-of-term, term-of-coef, no-term, nil-of-zero
 -- Of equality: equal-of-same, same-of-equal, equal-nil
 -- Of clean: clean-proper, clean-same
 use mathlib.Core.Path.{_≡_, refl, sym, _∙_, ap, ap₂, subst, fun-ext}
-use mathlib.Core.List.{List, [], _∷_, _++_, List·Memᴰ·head, List·Memᴰ·tail, List·Memᴰ·not-nil, List·Memᴰ·cases-cons}
+use mathlib.Core.List.{[], _∷_, _++_, List·Memᴰ·head, List·Memᴰ·tail, List·Memᴰ·not-nil, List·Memᴰ·cases-cons}
 use mathlib.Core.Logic.{_⊎_, inl, inr, ite, if-pos, if-neg}
-use Rattle.residue.specs.Field.{Arithmetic, Ring}
+use Rattle.lists.specs.Lists.{_∈_}
+use Rattle.residue.specs.Field.{Arithmetic}
+use Rattle.residue.specs.RingLaws.{Ring}
 use Rattle.monomial.specs.Ordering.{Monomials}
-use Rattle.groebner.specs.Polynomials.{_∈_, Poly, All, all-nil, all-cons, Polynomial, Equal, scale, negate, minus, shift, times, δ, coef, Same}
+use Rattle.groebner.specs.Polynomials.{Poly, All, all-nil, all-cons, Polynomial, Equal, scale, negate, minus, shift, times, δ, coef, Same}
 use Rattle.groebner.proofs.Modules.{self, zero-add, mul-zero}
-use Rattle.groebner.proofs.Linear.{all-map, all-both, all-without, without, without-off, lin, lin-append, lin-scale, lin-negate, lin-relabel, lin-expand, coef-lin, coef-split}
+use Rattle.groebner.proofs.Linear.{all-map, all-without, without, without-off, lin, lin-append, lin-scale, lin-negate, lin-relabel, lin-expand, coef-lin, coef-split}
 
 -- All over members.
 module _ {F M : Type 0} where

@@ -1,17 +1,18 @@
 -- Uniqueness (T8): two reduced Groebner bases of one ideal in one order have the same lines, and written in rising order they are the same list.
 --   unique-lines      every line of one is a line of the other
---   rising-unique     rising lists with the same lines are equal
 --   unique-basis      two rising reduced Groebner bases of one ideal are equal
 use mathlib.Core.Path.{_≡_, refl, sym, _∙_, ap, ap₂, subst}
-use mathlib.Core.List.{List, [], _∷_, List·Memᴰ·head, List·Memᴰ·tail, List·Memᴰ·not-nil, List·Memᴰ·cases-cons, Memᴰ·cast, List-discrete}
+use mathlib.Core.List.{List, _∷_, List·Memᴰ·tail, Memᴰ·cast, List-discrete}
 use mathlib.Core.HLevel.{×-discrete}
 use mathlib.Core.Logic.{_⊎_, inl, inr}
-use Rattle.residue.specs.Field.{Arithmetic, Field}
-use Rattle.monomial.specs.Ordering.{Monomials, Divides, MonomialOrder}
-use Rattle.monomial.proofs.AnyOrder.{irreflexive, asymmetric}
-use Rattle.groebner.specs.Polynomials.{_∈_, Poly, All, all-cons, minus, coef, Same}
+use Rattle.lists.specs.Lists.{_∈_}
+use Rattle.residue.specs.Field.{Arithmetic}
+use Rattle.residue.specs.RingLaws.{Field}
+use Rattle.monomial.specs.Ordering.{Monomials, Divides}
+use Rattle.monomial.specs.OrderLaws.{MonomialOrder}
+use Rattle.groebner.specs.Polynomials.{Poly, All, all-cons, minus, coef, Same}
 use Rattle.groebner.specs.Lines.{Line, polynomial, Reducible, Rising}
-use Rattle.groebner.specs.Remainders.{Finished}
+use Rattle.groebner.specs.Remainders.{Normal}
 use Rattle.groebner.specs.Ideals.{IdealOf, SameIdeal}
 use Rattle.groebner.specs.Bases.{Reduced}
 use Rattle.groebner.proofs.Modules.{self, equal-of-difference}
@@ -21,7 +22,8 @@ use Rattle.groebner.proofs.Ground.{PolynomialRing, not-below, divides-a
 use Rattle.groebner.proofs.Division.{rewriting}
 use Rattle.groebner.proofs.Ideals.{member-of-ideal, ideal-of-member}
 use Rattle.groebner.proofs.GroebnerBases.{zero-of-finished}
-use Rattle.groebner.proofs.Leads.{coef-over, coef-head, falling-unique, low, leading-line, ideal-line}
+use Rattle.groebner.proofs.Leads.{coef-over, coef-head, falling-unique, leads-low, leading-line, ideal-line}
+use Rattle.groebner.proofs.RisingLists.{rising-lines-unique}
 
 module _ {F M : Type 0} {R : Arithmetic F} {𝓜 : Monomials M} {lt : M → M → Type 0} (𝓟 : PolynomialRing R 𝓜) (ord : MonomialOrder 𝓜 lt) where
   open Arithmetic R using (zero as 𝟘, one as 𝟙, add, neg)
@@ -49,7 +51,7 @@ module _ {F M : Type 0} {R : Arithmetic F} {𝓜 : Monomials M} {lt : M → M �
   no-tail {G} red g x p q c k t d = go (line-discrete g x)
     where
       go : Dec (g ≡ x) → ⊥
-      go (yes e) = not-below ord (d .0) (x .0) (subst (λ z. lt z (x .0)) (d .1) (subst (λ (y : Line F M). lt k (y .0)) e (all-at (low 𝓟 ord (red .lines) g p) t)))
+      go (yes e) = not-below ord (d .0) (x .0) (subst (λ z. lt z (x .0)) (d .1) (subst (λ (y : Line F M). lt k (y .0)) e (all-at (leads-low 𝓟 ord (red .lines) g p) t)))
       go (no n) = all-at (red .clear g x p q n) (List·Memᴰ·tail t) d
 
   module _ (G H : List (Line F M)) (rG : Reduced R 𝓜 lt G) (rH : Reduced R 𝓜 lt H) (same : SameIdeal R 𝓜 G H) where
@@ -77,18 +79,18 @@ module _ {F M : Type 0} {R : Arithmetic F} {𝓜 : Monomials M} {lt : M → M �
         value k = clean-same ring 𝓜 decide raw k ∙ coef-minus ring 𝓜 (polynomial R g) (polynomial R h) k
 
         inside : IdealOf R 𝓜 G d
-        inside = ideal-of-member 𝓟 ord G (low 𝓟 ord (rG .lines)) d (member-same (rewriting 𝓟 ord G (low 𝓟 ord (rG .lines))) _ _ value (member-add (rewriting 𝓟 ord G (low 𝓟 ord (rG .lines))) _ _
-            (member-of-ideal 𝓟 ord G (low 𝓟 ord (rG .lines)) (polynomial R g) (ideal-line 𝓟 ord (rG .lines) g p)) (member-neg (rewriting 𝓟 ord G (low 𝓟 ord (rG .lines))) _
-            (member-of-ideal 𝓟 ord G (low 𝓟 ord (rG .lines)) (polynomial R h) (same (polynomial R h) .1 (ideal-line 𝓟 ord (rH .lines) h q))))))
+        inside = ideal-of-member 𝓟 ord G (leads-low 𝓟 ord (rG .lines)) d (member-same (rewriting 𝓟 ord G (leads-low 𝓟 ord (rG .lines))) _ _ value (member-add (rewriting 𝓟 ord G (leads-low 𝓟 ord (rG .lines))) _ _
+            (member-of-ideal 𝓟 ord G (leads-low 𝓟 ord (rG .lines)) (polynomial R g) (ideal-line 𝓟 ord (rG .lines) g p)) (member-neg (rewriting 𝓟 ord G (leads-low 𝓟 ord (rG .lines))) _
+            (member-of-ideal 𝓟 ord G (leads-low 𝓟 ord (rG .lines)) (polynomial R h) (same (polynomial R h) .1 (ideal-line 𝓟 ord (rH .lines) h q))))))
 
         heads : (k : M) → coef R 𝓜 (g .1) k ≡ 𝟘 → coef R 𝓜 (h .1) k ≡ 𝟘 → coef R 𝓜 (polynomial R g) k ≡ coef R 𝓜 (polynomial R h) k
         heads k a b = go (𝓜 .same? k (g .0))
           where
             go : Dec (k ≡ g .0) → coef R 𝓜 (polynomial R g) k ≡ coef R 𝓜 (polynomial R h) k
-            go (yes w) = ap (coef R 𝓜 (polynomial R g)) w ∙ coef-head ring ord (𝟙, g .0) (g .1) (low 𝓟 ord (rG .lines) g p) ∙ sym (ap (coef R 𝓜 (polynomial R h)) (w ∙ e) ∙ coef-head ring ord (𝟙, h .0) (h .1) (low 𝓟 ord (rH .lines) h q))
+            go (yes w) = ap (coef R 𝓜 (polynomial R g)) w ∙ coef-head ring ord (𝟙, g .0) (g .1) (leads-low 𝓟 ord (rG .lines) g p) ∙ sym (ap (coef R 𝓜 (polynomial R h)) (w ∙ e) ∙ coef-head ring ord (𝟙, h .0) (h .1) (leads-low 𝓟 ord (rH .lines) h q))
             go (no n) = coef-there ring 𝓜 (𝟙, g .0) (g .1) k n ∙ a ∙ sym (coef-there ring 𝓜 (𝟙, h .0) (h .1) k (λ w. n (w ∙ sym e)) ∙ b)
 
-        clear : Finished 𝓜 G d
+        clear : Normal 𝓜 G d
         clear c k t (x, w, z) = no-term ring 𝓜 d (clean-proper ring 𝓜 decide raw) c k (value k ∙ ap₂ (λ x y. add x (neg y)) (heads k (onG (find 𝓜 (g .1) k)) (onH (find 𝓜 (h .1) k))) refl ∙ ring .add-neg _) t
           where
             onG : ((a : F) × ((a, k) ∈ g .1)) ⊎ All (λ y. ¬ (y ≡ k)) (g .1) → coef R 𝓜 (g .1) k ≡ 𝟘
@@ -100,44 +102,19 @@ module _ {F M : Type 0} {R : Arithmetic F} {𝓜 : Monomials M} {lt : M → M �
             onH (inr a) = coef-absent ring 𝓜 (h .1) k a
 
         agree : Same R 𝓜 (polynomial R g) (polynomial R h)
-        agree k = equal-of-difference (self ring) _ _ (sym (value k) ∙ ap (λ f. coef R 𝓜 f k) (zero-of-finished 𝓟 ord G (low 𝓟 ord (rG .lines)) (rG .groebner) d (clean-proper ring 𝓜 decide raw) inside clear) ∙ coef-nil ring 𝓜 k)
+        agree k = equal-of-difference (self ring) _ _ (sym (value k) ∙ ap (λ f. coef R 𝓜 f k) (zero-of-finished 𝓟 ord G (leads-low 𝓟 ord (rG .lines)) (rG .groebner) d (clean-proper ring 𝓜 decide raw) inside clear) ∙ coef-nil ring 𝓜 k)
 
         tails : Same R 𝓜 (g .1) (h .1)
         tails k = go (𝓜 .same? k (g .0))
           where
             go : Dec (k ≡ g .0) → coef R 𝓜 (g .1) k ≡ coef R 𝓜 (h .1) k
-            go (yes w) = coef-over ring ord (g .1) (g .0) k (low 𝓟 ord (rG .lines) g p) (inl (sym w)) ∙ sym (coef-over ring ord (h .1) (h .0) k (low 𝓟 ord (rH .lines) h q) (inl (sym e ∙ sym w)))
+            go (yes w) = coef-over ring ord (g .1) (g .0) k (leads-low 𝓟 ord (rG .lines) g p) (inl (sym w)) ∙ sym (coef-over ring ord (h .1) (h .0) k (leads-low 𝓟 ord (rH .lines) h q) (inl (sym e ∙ sym w)))
             go (no n) = sym (coef-there ring 𝓜 (𝟙, g .0) (g .1) k n) ∙ agree k ∙ coef-there ring 𝓜 (𝟙, h .0) (h .1) k (λ w. n (w ∙ sym e))
 
     -- Every line of G is a line of H.
     pub unique-lines : (g : Line F M) → g ∈ G → g ∈ H
     unique-lines g p = let y = partner G H rG rH same g p in Memᴰ·cast (same-line g (y .0) p (y .1) (y .2)) (y .1)
 
--- Rising lists with the same lines are equal.
-module _ {F M : Type 0} {𝓜 : Monomials M} {lt : M → M → Type 0} (ord : MonomialOrder 𝓜 lt) where
-  pub rising-unique : (G H : List (Line F M)) → Rising lt G → Rising lt H → ((g : Line F M) → g ∈ G → g ∈ H) → ((g : Line F M) → g ∈ H → g ∈ G) → G ≡ H
-  rising-unique [] [] a b to fro = refl
-  rising-unique [] (h ∷ H) a b to fro = absurd (List·Memᴰ·not-nil (fro h (List·Memᴰ·head refl)))
-  rising-unique (g ∷ G) [] a b to fro = absurd (List·Memᴰ·not-nil (to g (List·Memᴰ·head refl)))
-  rising-unique (g ∷ G) (h ∷ H) a b to fro = ap₂ (λ (x : Line F M) (y : List (Line F M)). x ∷ y) heads
-      (rising-unique G H (a .1) (b .1) (λ x q. tail-to x q (List·Memᴰ·cases-cons (to x (List·Memᴰ·tail q)))) (λ x q. tail-fro x q (List·Memᴰ·cases-cons (fro x (List·Memᴰ·tail q)))))
-    where
-      heads : g ≡ h
-      heads = go (List·Memᴰ·cases-cons (to g (List·Memᴰ·head refl))) (List·Memᴰ·cases-cons (fro h (List·Memᴰ·head refl)))
-        where
-          go : (g ≡ h) ⊎ (g ∈ H) → (h ≡ g) ⊎ (h ∈ G) → g ≡ h
-          go (inl e) r = e
-          go (inr p) (inl e) = sym e
-          go (inr p) (inr q) = absurd (asymmetric ord (b .0 g p) (a .0 h q))
-
-      tail-to : (x : Line F M) → x ∈ G → (x ≡ h) ⊎ (x ∈ H) → x ∈ H
-      tail-to x q (inl e) = absurd (irreflexive ord (subst (λ (y : Line F M). lt (g .0) (y .0)) (e ∙ sym heads) (a .0 x q)))
-      tail-to x q (inr p) = p
-
-      tail-fro : (x : Line F M) → x ∈ H → (x ≡ g) ⊎ (x ∈ G) → x ∈ G
-      tail-fro x q (inl e) = absurd (irreflexive ord (subst (λ (y : Line F M). lt (h .0) (y .0)) (e ∙ heads) (b .0 x q)))
-      tail-fro x q (inr p) = p
-
 pub unique-basis : {F M : Type 0} {R : Arithmetic F} {𝓜 : Monomials M} {lt : M → M → Type 0} (𝓟 : PolynomialRing R 𝓜) (ord : MonomialOrder 𝓜 lt) (G H : List (Line F M))
     → Reduced R 𝓜 lt G → Reduced R 𝓜 lt H → Rising lt G → Rising lt H → SameIdeal R 𝓜 G H → G ≡ H
-unique-basis 𝓟 ord G H rG rH x y same = rising-unique ord G H x y (unique-lines 𝓟 ord G H rG rH same) (unique-lines 𝓟 ord H G rH rG (λ f. (same f .1, same f .0)))
+unique-basis 𝓟 ord G H rG rH x y same = rising-lines-unique ord G H x y (unique-lines 𝓟 ord G H rG rH same) (unique-lines 𝓟 ord H G rH rG (λ f. (same f .1, same f .0)))

@@ -1,16 +1,16 @@
 -- The variables: operators that stand for them, induction over them, and taking one off a monomial.
---   iterate A k w          A (A (.. w)), k times
---   apply n A m w          A_0^(m_0) (A_1^(m_1) (.. w)) for the exponents of m
---   Commuting n A          the operators of the n variables commute
---   apply-one              for the monomial 1 nothing is applied
---   apply-variable         commuting operators: for x_i·m the operator of x_i comes last
---   apply-induction        what holds of 1 and w, and of x_i·m and A_i w where it holds of m and w, holds of m and apply n A m w
---   variable-induction     what holds of 1, and of x_i·m where it holds of m, holds of every monomial
---   one-or-variable        a monomial is 1 or a multiple of a variable
---   variable-above         m is smaller than x_i·m
---   product-left-comm      a·(b·c) = b·(a·c)
---   TakenOff n G i b       some x_j divides b, and x_i·b / x_j is reducible
---   take-off               so it is where x_i·b is reducible, and neither is b nor is x_i·b a leading monomial
+--   iterate A k w        A (A (.. w)), k times
+--   applyAll n A m w     A_0^(m_0) (A_1^(m_1) (.. w)) for the exponents of m
+--   Commuting n A        the operators of the n variables commute
+--   apply-one            for the monomial 1 nothing is applied
+--   apply-variable       commuting operators: for x_i·m the operator of x_i comes last
+--   apply-induction      what holds of 1 and w, and of x_i·m and A_i w where it holds of m and w, holds of m and applyAll n A m w
+--   variable-induction   what holds of 1, and of x_i·m where it holds of m, holds of every monomial
+--   one-or-variable      a monomial is 1 or a multiple of a variable
+--   variable-above       m is smaller than x_i·m
+--   product-left-comm    a·(b·c) = b·(a·c)
+--   TakenOff n G i b     some x_j divides b, and x_i·b / x_j is reducible
+--   take-off             so it is where x_i·b is reducible, and neither is b nor is x_i·b a leading monomial
 use mathlib.Core.Path.{_≡_, refl, sym, _∙_, ap, ap₂, subst}
 use mathlib.Core.List.{List}
 use mathlib.Core.Logic.{_⊎_, inl, inr, ⊎-elim, by-cases}
@@ -19,15 +19,15 @@ use native.Mathlib.Nat.{zero-add}
 use native.Mathlib.Numerals.{one-add}
 use native.Mathlib.Decide.{ℕ-discrete, decLe}
 use native.Mathlib.Omega.{arith}
-use Rattle.monomial.specs.Rows.{Row, exponent, one, product, quotient}
-use Rattle.monomial.specs.Ordering.{Divides, MonomialOrder, rows}
+use Rattle.lists.specs.Lists.{_∈_}
+use Rattle.monomial.specs.Rows.{Row, exponent, one, product}
+use Rattle.monomial.specs.Quotients.{quotient, variable}
+use Rattle.monomial.specs.Ordering.{Divides, monomials}
+use Rattle.monomial.specs.OrderLaws.{MonomialOrder}
 use Rattle.monomial.proofs.Products.{exponent-product, product-assoc, product-comm, one-product, quotient-product, rows-laws}
 use Rattle.monomial.proofs.AnyOrder.{divisor-below}
-use Rattle.groebner.specs.Polynomials.{_∈_}
+use Rattle.monomial.proofs.Powers.{exponent-power, exponent-power-other, power-divides}
 use Rattle.groebner.specs.Lines.{Line, Reducible}
-use Rattle.groebner.specs.Standard.{power}
-use Rattle.groebner.specs.Variables.{variable}
-use Rattle.groebner.proofs.Powers.{exponent-power, exponent-power-other, power-divides}
 
 -- Operators, one for each variable.
 module _ {W : Type 0} where
@@ -37,9 +37,9 @@ module _ {W : Type 0} where
   iterate A (suc k) w = A (iterate A k w)
 
   -- A_0^(m_0) (A_1^(m_1) (.. w))
-  unfoldable pub apply : (n : ℕ) → (ℕ → W → W) → Row n → W → W
-  apply zero A m w = w
-  apply (suc n) A m w = iterate (A 0) (m .0) (apply n (λ i. A (suc i)) (m .1) w)
+  unfoldable pub applyAll : (n : ℕ) → (ℕ → W → W) → Row n → W → W
+  applyAll zero A m w = w
+  applyAll (suc n) A m w = iterate (A 0) (m .0) (applyAll n (λ i. A (suc i)) (m .1) w)
 
   -- The operators of the n variables commute.
   abbrev pub Commuting : ℕ → (ℕ → W → W) → Type 0
@@ -50,27 +50,27 @@ module _ {W : Type 0} where
   iterate-past A B h zero w = refl
   iterate-past A B h (suc k) w = ap A (iterate-past A B h k w) ∙ h (iterate A k w)
 
-  pub apply-one : (n : ℕ) (A : ℕ → W → W) (w : W) → apply n A (one n) w ≡ w
-  unfolding apply iterate one
+  pub apply-one : (n : ℕ) (A : ℕ → W → W) (w : W) → applyAll n A (one n) w ≡ w
+  unfolding applyAll iterate one
   apply-one zero A w = refl
   apply-one (suc n) A w = apply-one n (λ i. A (suc i)) w
 
-  pub apply-variable : (n : ℕ) (A : ℕ → W → W) → Commuting n A → (i : ℕ) → i < n → (m : Row n) (w : W) → apply n A (product n (variable n i) m) w ≡ A i (apply n A m w)
-  unfolding apply iterate product
+  pub apply-variable : (n : ℕ) (A : ℕ → W → W) → Commuting n A → (i : ℕ) → i < n → (m : Row n) (w : W) → applyAll n A (product n (variable n i) m) w ≡ A i (applyAll n A m w)
+  unfolding applyAll iterate product
   apply-variable zero A c i h m w = absurd (omega arith)
-  apply-variable (suc n) A c zero h m w = ap₂ (λ x y. iterate (A 0) x (apply n (λ i. A (suc i)) y w)) (one-add (m .0)) (one-product n (m .1))
+  apply-variable (suc n) A c zero h m w = ap₂ (λ x y. iterate (A 0) x (applyAll n (λ i. A (suc i)) y w)) (one-add (m .0)) (one-product n (m .1))
   apply-variable (suc n) A c (suc i) h m w =
       ap₂ (iterate (A 0)) (zero-add (m .0)) (apply-variable n (λ i. A (suc i)) (λ i j p q. c (suc i) (suc j) (omega arith) (omega arith)) i (omega arith) (m .1) w)
       ∙ iterate-past (A 0) (A (suc i)) (c 0 (suc i) (omega arith) h) (m .0) _
 
   pub apply-induction : (n : ℕ) (A : ℕ → W → W) (P : Row n → W → Type 0) (w : W) → P (one n) w
-      → ((i : ℕ) → i < n → (m : Row n) (w : W) → P m w → P (product n (variable n i) m) (A i w)) → (m : Row n) → P m (apply n A m w)
-  unfolding apply iterate one product
+      → ((i : ℕ) → i < n → (m : Row n) (w : W) → P m w → P (product n (variable n i) m) (A i w)) → (m : Row n) → P m (applyAll n A m w)
+  unfolding applyAll iterate one product
   apply-induction zero A P w base step m = base
   apply-induction (suc n) A P w base step m = raise (m .0) (apply-induction n (λ i. A (suc i)) (λ r. P (0, r)) w base (λ i h r. step (suc i) (omega arith) (0, r)) (m .1))
     where
       v : W
-      v = apply n (λ i. A (suc i)) (m .1) w
+      v = applyAll n (λ i. A (suc i)) (m .1) w
 
       raise : (a : ℕ) → P (0, m .1) v → P (a, m .1) (iterate (A 0) a v)
       raise zero p = p
@@ -83,8 +83,8 @@ module _ (n : ℕ) where
   pub one-or-variable : (m : Row n) → (m ≡ one n) ⊎ ((j : ℕ) × (j < n) × (c : Row n) × (m ≡ product n (variable n j) c))
   one-or-variable m = variable-induction (λ m. (m ≡ one n) ⊎ ((j : ℕ) × (j < n) × (c : Row n) × (m ≡ product n (variable n j) c))) (inl refl) (λ j h c _. inr (j, h, c, refl)) m
 
-  pub variable-above : {lt : Row n → Row n → Type 0} → MonomialOrder (rows n) lt → (i : ℕ) → i < n → (m : Row n) → lt m (product n (variable n i) m)
-  unfolding rows
+  pub variable-above : {lt : Row n → Row n → Type 0} → MonomialOrder (monomials n) lt → (i : ℕ) → i < n → (m : Row n) → lt m (product n (variable n i) m)
+  unfolding monomials
   variable-above ord i h m = ⊎-elim (λ e. absurd (omega (arith, exponent-power n i 1 h, exponent-product n (variable n i) m i, ap (λ x. exponent n x i) e))) (λ l. l)
       (divisor-below (rows-laws n) ord (variable n i, refl))
 
@@ -97,12 +97,12 @@ module _ (n : ℕ) where
 module _ {F : Type 0} (n : ℕ) (G : List (Line F (Row n))) where
   -- Some x_j divides b, and x_i·b / x_j is reducible.
   abbrev pub TakenOff : ℕ → Row n → Type 0
-  TakenOff i b = (j : ℕ) × (j < n) × (c : Row n) × (b ≡ product n (variable n j) c) × Reducible (rows n) G (product n (variable n i) c)
+  TakenOff i b = (j : ℕ) × (j < n) × (c : Row n) × (b ≡ product n (variable n j) c) × Reducible (monomials n) G (product n (variable n i) c)
 
   -- x_i·b = u·lead g with u = x_j·v: x_j divides b, or j is i and b = v·lead g.
-  pub take-off : (i : ℕ) → i < n → (b : Row n) → ¬ Reducible (rows n) G b → Reducible (rows n) G (product n (variable n i) b)
+  pub take-off : (i : ℕ) → i < n → (b : Row n) → ¬ Reducible (monomials n) G b → Reducible (monomials n) G (product n (variable n i) b)
       → ((g : Line F (Row n)) → g ∈ G → ¬ (product n (variable n i) b ≡ g .0)) → TakenOff i b
-  unfolding rows
+  unfolding monomials
   take-off i hi b irreducible (g, p, (u, q)) other = ⊎-elim (λ r. absurd (other g p (q ∙ ap (λ z. product n z (g .0)) r ∙ one-product n (g .0)))) (λ r. lifted-by (r .0) (r .1) (r .2) (r .3)) (one-or-variable n u)
     where
       x : ℕ → Row n
@@ -117,7 +117,7 @@ module _ {F : Type 0} (n : ℕ) (G : List (Line F (Row n))) where
           lifted : product n (x i) b ≡ product n (x j) m
           lifted = q ∙ ap (λ z. product n z (g .0)) r ∙ product-assoc n (x j) v (g .0)
 
-          divide : Divides (rows n) (x j) b → TakenOff i b
+          divide : Divides (monomials n) (x j) b → TakenOff i b
           divide (c, s) = (j, hj, c, t, (g, p, (v, product-cancel n (x j) (product n (x i) c) m (product-left-comm n (x j) (x i) c ∙ ap (product n (x i)) (sym t) ∙ lifted))))
             where
               t : b ≡ product n (x j) c

@@ -1,20 +1,27 @@
 -- What one example shows, where a definition speaks of all.
---   Each P l, of-each              what holds of each element of an explicit list
+--   of-each                        what holds of every element of an explicit list holds of each
 --   EachPair P l, of-pairs         what holds of each earlier and later element
 --   same-remainder                 two remainders have the same coefficients (T1)
 --   s-polynomial-unique            two S-polynomials of one pair have the same coefficients
---   buchberger-of-one              one S-polynomial of each pair with remainder zero is enough
+--   Zero f g                       an S-polynomial of the lines f and g has remainder zero
+--   buchberger-of-one              one such S-polynomial of each pair is enough
 --   standard-of-coefficient        a coefficient that only the remainder of m has makes m standard
 --   dependent-of-combination       one combination shows that m is not standard
 use mathlib.Core.Path.{_≡_, sym, _∙_, ap, ap₂, subst}
-use mathlib.Core.List.{List, [], _∷_, List·Memᴰ·not-nil, List·Memᴰ·cases-cons}
-use mathlib.Core.Logic.{_⊎_, inl, inr}
-use Rattle.residue.specs.Field.{Arithmetic, Field}
-use Rattle.monomial.specs.Ordering.{Monomials, MonomialOrder}
-use Rattle.groebner.specs.Polynomials.{_∈_, Poly, Same, coef, scale, minus, shift}
-use Rattle.groebner.specs.Lines.{Before, Line, polynomial, Low}
+use mathlib.Core.List.{List, [], _∷_}
+use mathlib.Core.Logic.{inl, inr}
+use Rattle.lists.specs.Lists.{_∈_, Each}
+use Rattle.lists.specs.Pairs.{Before}
+use Rattle.lists.proofs.EachElement.{each-at}
+use Rattle.residue.specs.Field.{Arithmetic}
+use Rattle.residue.specs.RingLaws.{Field}
+use Rattle.monomial.specs.Ordering.{Monomials}
+use Rattle.monomial.specs.OrderLaws.{MonomialOrder}
+use Rattle.groebner.specs.Polynomials.{Poly, Same, coef, scale, minus, shift}
+use Rattle.groebner.specs.Lines.{Line, polynomial}
 use Rattle.groebner.specs.Remainders.{Remainder}
-use Rattle.groebner.specs.Bases.{SPolynomial, Buchberger}
+use Rattle.groebner.specs.Bases.{SPolynomial}
+use Rattle.groebner.specs.Criteria.{Buchberger, Low}
 use Rattle.groebner.specs.Standard.{Smaller, RemainderOf, Standard, combination}
 use Rattle.groebner.proofs.Modules.{mul-zero}
 use Rattle.groebner.proofs.Terms.{coef-nil, coef-append, coef-scale}
@@ -23,11 +30,6 @@ use Rattle.groebner.proofs.Ground.{PolynomialRing, cancel-right, divide
 use Rattle.groebner.proofs.Division.{rewriting, remainder-NF}
 use Rattle.groebner.proofs.GroebnerBases.{zero-remainder}
 
--- Each element has P.
-abbrev pub Each : {A : Type 0} → (A → Type 0) → List A → Type 0
-Each P [] = Unit
-Each P (x ∷ l) = P x × Each P l
-
 -- Each earlier and later element have P.
 abbrev pub EachPair : {A : Type 0} → (A → A → Type 0) → List A → Type 0
 EachPair P [] = Unit
@@ -35,16 +37,11 @@ EachPair P (x ∷ l) = Each (P x) l × EachPair P l
 
 module _ {A : Type 0} where
   pub of-each : (P : A → Type 0) (l : List A) → Each P l → (x : A) → x ∈ l → P x
-  of-each P [] e x i = absurd (List·Memᴰ·not-nil i)
-  of-each P (y ∷ l) e x i = at (List·Memᴰ·cases-cons i) (of-each P l (e .1) x)
-    where
-      at : (x ≡ y) ⊎ (x ∈ l) → (x ∈ l → P x) → P x
-      at (inl q) r = subst P (sym q) (e .0)
-      at (inr j) r = r j
+  of-each P l e x i = each-at P l e i
 
   pub of-pairs : (P : A → A → Type 0) (l : List A) → EachPair P l → (x y : A) → Before x y l → P x y
   of-pairs P [] e x y b = absurd b
-  of-pairs P (z ∷ l) e x y (inl b) = subst (λ w. P w y) (sym (b .0)) (of-each (P z) l (e .0) y (b .1))
+  of-pairs P (z ∷ l) e x y (inl b) = subst (λ w. P w y) (sym (b .0)) (each-at (P z) l (e .0) (b .1))
   of-pairs P (z ∷ l) e x y (inr b) = of-pairs P l (e .1) x y b
 
 module _ {F M : Type 0} {R : Arithmetic F} {𝓜 : Monomials M} {lt : M → M → Type 0} (𝓟 : PolynomialRing R 𝓜) (ord : MonomialOrder 𝓜 lt) where

@@ -10,15 +10,17 @@ use mathlib.Core.Bool.{true, Bool-discrete}
 use Prim.Native.Nat.{ℕ, zero, suc, _+_, _≤_, _<_}
 use native.Mathlib.Decide.{decLt}
 use native.Mathlib.Omega.{arith}
-use Rattle.monomial.specs.Rows.{Row, exponent, isPower}
-use Rattle.monomial.specs.Ordering.{rows, row?}
+use Rattle.lists.specs.Lists.{_∈_}
+use Rattle.monomial.specs.Rows.{Row, exponent, power}
+use Rattle.monomial.specs.Quotients.{isPower}
+use Rattle.monomial.specs.Ordering.{monomials, row?}
 use Rattle.monomial.proofs.Products.{rows-laws}
-use Rattle.groebner.specs.Polynomials.{_∈_}
+use Rattle.monomial.proofs.Powers.{exponent-power, power-divides, power-iff, power-of-divisor}
 use Rattle.groebner.specs.Lines.{Line, Reducible}
-use Rattle.groebner.specs.Standard.{power, ZeroDimensional, Finite, Lists}
+use Rattle.groebner.specs.Standard.{ZeroDimensional, Finite}
+use Rattle.groebner.specs.Conversions.{Lists}
 use Rattle.groebner.proofs.Lists.{range, in-range}
 use Rattle.groebner.proofs.Decisions.{among?, below?, finite-list}
-use Rattle.groebner.proofs.Powers.{exponent-power, power-divides, power-iff, power-of-divisor}
 
 -- The rows whose exponents are below given bounds.
 pairs : {A B : Type 0} → List A → List B → List (A × B)
@@ -58,24 +60,24 @@ total-above n {m} (x ∷ l) p i = go (List·Memᴰ·cases-cons p) (λ q. total-a
     go (inr q) r = omega (arith, r q)
 
 module _ {F : Type 0} (n : ℕ) (G : List (Line F (Row n))) where
-  reducible? : (m : Row n) → Dec (Reducible (rows n) G m)
+  reducible? : (m : Row n) → Dec (Reducible (monomials n) G m)
   reducible? m = among? (λ g. rows-laws n .divides? (g .0) m) G
 
   -- A power of each variable as a leading monomial bounds the exponents of an irreducible monomial.
-  finite-of-zero-dimensional : ZeroDimensional n G → Finite (λ m. ¬ Reducible (rows n) G m)
+  finite-of-zero-dimensional : ZeroDimensional n G → Finite (λ m. ¬ Reducible (monomials n) G m)
   finite-of-zero-dimensional z = (box n (total n leads), λ m s. in-box n (total n leads) m (λ i h. below m s i h (z i h)))
     where
       leads : List (Row n)
       leads = map (λ g. g .0) G
 
-      below : (m : Row n) → ¬ Reducible (rows n) G m → (i : ℕ) → i < n → (e : ℕ) × (g : Line F (Row n)) × (g ∈ G) × (g .0 ≡ power n i e) → exponent n m i < total n leads i
+      below : (m : Row n) → ¬ Reducible (monomials n) G m → (i : ℕ) → i < n → (e : ℕ) × (g : Line F (Row n)) × (g ∈ G) × (g .0 ≡ power n i e) → exponent n m i < total n leads i
       below m s i h (e, g, p, q) = by-cases (decLt (exponent n m i) (total n leads i)) (λ l. l) (λ l. absurd (s (g, p, rw q (power-divides n i h e m .1 (high l)))))
         where
           high : ¬ (exponent n m i < total n leads i) → e ≤ exponent n m i
           high l = omega (arith, total-above n leads (Memᴰ·map (λ g. g .0) p) i, ap (λ x. exponent n x i) q, exponent-power n i e h)
 
   -- A power of a variable beyond all exponents of the list is reducible, and a divisor of it is a power of that variable.
-  zero-dimensional-of-finite : Finite (λ m. ¬ Reducible (rows n) G m) → ZeroDimensional n G
+  zero-dimensional-of-finite : Finite (λ m. ¬ Reducible (monomials n) G m) → ZeroDimensional n G
   zero-dimensional-of-finite f i h = by-cases (reducible? m) (λ r. let k = power-of-divisor n i (r .0 .0) e (r .2) in (k .0, r .0, r .1, k .1))
       (λ s. absurd (omega (arith, total-above n (f .0) (f .1 m s) i, exponent-power n i e h)))
     where
@@ -85,10 +87,10 @@ module _ {F : Type 0} (n : ℕ) (G : List (Line F (Row n))) where
       m : Row n
       m = power n i e
 
-  pub zero-dimensional-iff : ZeroDimensional n G ↔ Finite (λ m. ¬ Reducible (rows n) G m)
+  pub zero-dimensional-iff : ZeroDimensional n G ↔ Finite (λ m. ¬ Reducible (monomials n) G m)
   zero-dimensional-iff = (finite-of-zero-dimensional, zero-dimensional-of-finite)
 
-  pub irreducible-list : ZeroDimensional n G → (B : List (Row n)) × Lists (λ m. ¬ Reducible (rows n) G m) B
+  pub irreducible-list : ZeroDimensional n G → (B : List (Row n)) × Lists (λ m. ¬ Reducible (monomials n) G m) B
   irreducible-list z = finite-list (row? n) (λ m. Dec·not (reducible? m)) (finite-of-zero-dimensional z)
 
   pub zero-dimensional-tested : ZeroDimensional n G ↔ ((i : ℕ) → i < n → (g : Line F (Row n)) × (g ∈ G) × (isPower n i (g .0) ≡ true))

@@ -1,10 +1,10 @@
--- Rows of coefficients as lists; what is past the end of a list counts as zero (document 01, "The walk").
---   subtract-multiple R a c b     a - c·b
---   multiply R c a                c·a
---   unit-array R D k              one at place k of D places, zero elsewhere
---   terms B c                     the polynomial with the coefficients c at the monomials B
---   Pivoted A                     a row with its pivot
---   Augmented A C                 a vector with a combination beside it
+-- Inner contracts. Rows of coefficients as lists; what is past the end of a list counts as zero (document 01, "The walk").
+--   subtract-multiple R a c b   a - c·b
+--   multiply R c a              c·a
+--   unit-array R D k            one at place k of D places, zero elsewhere
+--   polynomialOf B c            the polynomial with the coefficients c at the monomials B
+--   Pivoted A                   a row with its pivot
+--   Augmented A C               a vector with a combination beside it
 use mathlib.Core.List.{List, [], _∷_, map}
 use Prim.Native.Nat.{ℕ}
 use lib.ListN.{set, replicate}
@@ -28,10 +28,10 @@ module _ {F : Type 0} (R : Arithmetic F) where
   unit-array D k = set (replicate D (R .zero)) k (R .one)
 
 -- The polynomial with the coefficients c at the monomials B.
-unfoldable pub terms : {F M : Type 0} → List M → List F → Poly F M
-terms [] c = []
-terms (b ∷ B) [] = []
-terms (b ∷ B) (x ∷ c) = (x, b) ∷ terms B c
+unfoldable pub polynomialOf : {F M : Type 0} → List M → List F → Poly F M
+polynomialOf [] c = []
+polynomialOf (b ∷ B) [] = []
+polynomialOf (b ∷ B) (x ∷ c) = (x, b) ∷ polynomialOf B c
 
 -- A row with its pivot.
 pub record Pivoted (A : Type 0) : Type 0 where

@@ -1,5 +1,4 @@
--- Lists of monic lines with an order (document 01, "Words and orders").
---   Once l             no element stands twice in the list
+-- Believed. Lists of monic lines with an order (document 01, "Words and orders").
 --   Line F M           a monic line: its leading monomial and the other terms
 --   polynomial R g     the polynomial of a line
 --   Falling lt f       greatest term first
@@ -7,24 +6,14 @@
 --   Reducible 𝓜 G m    some leading monomial divides m
 --   Earliest 𝓜 m g G   g is the earliest line of G whose leading monomial divides m
 --   Rising lt G        the lines rise by leading monomial
---   Low lt G           the tail of each line is below its leading monomial
---   Before f g l       f stands before g in the list
+--   RisingList lt l    each element of l is smaller than all that follow it
 use mathlib.Core.Path.{_≡_}
 use mathlib.Core.List.{List, [], _∷_}
 use mathlib.Core.Logic.{_⊎_}
+use Rattle.lists.specs.Lists.{_∈_}
 use Rattle.residue.specs.Field.{Arithmetic}
 use Rattle.monomial.specs.Ordering.{Monomials, Divides}
-use Rattle.groebner.specs.Polynomials.{_∈_, Poly, All, Polynomial}
-
--- No element stands twice.
-abbrev pub Once : {A : Type 0} → List A → Type 0
-Once [] = Unit
-Once (x ∷ l) = ¬ (x ∈ l) × Once l
-
--- f stands before g in the list.
-abbrev pub Before : {A : Type 0} → A → A → List A → Type 0
-Before f g [] = ⊥
-Before f g (h ∷ l) = ((f ≡ h) × (g ∈ l)) ⊎ Before f g l
+use Rattle.groebner.specs.Polynomials.{Poly, All, Polynomial}
 
 -- A monic line: its leading monomial, whose coefficient is 1, and the other terms.
 abbrev pub Line : Type 0 → Type 0 → Type 0
@@ -59,6 +48,7 @@ abbrev pub Rising : {F M : Type 0} → (M → M → Type 0) → List (Line F M) 
 Rising lt [] = Unit
 Rising {F} {M} lt (g ∷ G) = ((h : Line F M) → h ∈ G → lt (g .0) (h .0)) × Rising lt G
 
--- The tail of each line is below its leading monomial.
-abbrev pub Low : {F M : Type 0} → (M → M → Type 0) → List (Line F M) → Type 0
-Low {F} {M} lt G = (g : Line F M) → g ∈ G → All (λ m. lt m (g .0)) (g .1)
+-- Each element is smaller than all that follow it.
+abbrev pub RisingList : {M : Type 0} → (M → M → Type 0) → List M → Type 0
+RisingList lt [] = Unit
+RisingList {M} lt (x ∷ l) = ((y : M) → y ∈ l → lt x y) × RisingList lt l

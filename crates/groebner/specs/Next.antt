@@ -1,8 +1,8 @@
--- The next monomial in lex, for every ranking of the variables, and all monomials in turn (document 01, "The walk" and refusal 14).
+-- Inner contracts. The next monomial in lex, for every ranking of the variables, and all monomials in turn (document 01, "The walk" and refusal 14).
 --   withExponent n v e m    m with the exponent e of variable v
 --   raise n v m             the exponent of variable v raised by one
 --   clear n s m             the exponents of the variables of the list s set to 0
---   Ranking n s             s ranks the n variables, greatest first: each stands in it once
+--   RanksOnce n s           s ranks the n variables, greatest first: each stands in it once
 --   carried n v s m         m with the exponents of the variables of s set to 0, and that of v raised by one
 --   next n s excluded m     raise the exponent of the last variable of s; while the outcome is excluded, set it to 0 and raise the one before
 --   collect, irreducibles   all monomials that are not excluded, from m on and from 1 on, if they are at most that many
@@ -11,7 +11,7 @@ use mathlib.Core.List.{List, [], _∷_, _++_}
 use mathlib.Core.Option.{Option, none, some}
 use Prim.Native.Nat.{ℕ, zero, suc, _<_}
 use Rattle.monomial.specs.Rows.{Row, one, exponent}
-use Rattle.groebner.specs.Standard.{Lists}
+use Rattle.groebner.specs.Conversions.{Lists}
 
 -- m with the exponent e of variable v.
 unfoldable pub withExponent : (n v e : ℕ) → Row n → Row n
@@ -31,8 +31,8 @@ clear n [] m = m
 clear n (v ∷ s) m = withExponent n v 0 (clear n s m)
 
 -- s ranks the n variables, greatest first: each stands in it once.
-abbrev pub Ranking : ℕ → List ℕ → Type 0
-Ranking n s = Lists (λ v. v < n) s
+abbrev pub RanksOnce : ℕ → List ℕ → Type 0
+RanksOnce n s = Lists (λ v. v < n) s
 
 -- The exponents of the variables of s set to 0, and that of v raised by one.
 unfoldable pub carried : (n v : ℕ) → List ℕ → Row n → Row n

@@ -1,9 +1,10 @@
--- Lines with their tails in the order of a list of monomials.
+-- Inner contracts. Lines with their tails in the order of a list of monomials.
 --   nonzero-term field c m        the term c·m, or none if c is zero
 --   ordered field B c             Σ c(b)·b over the monomials b of B, the last first, without the terms that are zero
 --   ordered-line field 𝓜 B g      a line with its tail in that order
 use mathlib.Core.List.{List, [], _∷_, _++_}
-use Rattle.residue.specs.Field.{Arithmetic, Field}
+use Rattle.residue.specs.Field.{Arithmetic}
+use Rattle.residue.specs.RingLaws.{Field}
 use Rattle.monomial.specs.Ordering.{Monomials}
 use Rattle.groebner.specs.Polynomials.{Poly, coef}
 use Rattle.groebner.specs.Lines.{Line}

@@ -1,6 +1,7 @@
--- Polynomials as lists of terms (document 01, "Words and orders", at Calculator).
+-- Believed. Polynomials as lists of terms (document 01, "Words and orders", at Calculator).
 --   Poly F M          lists of terms, each a coefficient and a monomial
 --   All P f           every monomial of f has P
+--   δ R 𝓜 k m         1 where k and m are equal, and 0 elsewhere
 --   coef R 𝓜 f m      the coefficient of m in f
 --   Same R 𝓜 f g      f and g have the same coefficients
 --   Polynomial R f    no monomial stands twice in f, and no coefficient is zero
@@ -14,15 +15,11 @@
 --   times R 𝓜 f g     f·g
 --   IsSum, IsProduct  p is the sum, the product of f and g, as a polynomial
 use mathlib.Core.Path.{_≡_}
-use mathlib.Core.List.{List, [], _∷_, _++_, List·Memᴰ}
+use mathlib.Core.List.{List, [], _∷_, _++_}
 use mathlib.Core.Logic.{ite}
+use Rattle.lists.specs.Lists.{_∈_}
 use Rattle.residue.specs.Field.{Arithmetic}
 use Rattle.monomial.specs.Ordering.{Monomials}
-
-infix 50 _∈_
--- x is an element of the list.
-abbrev pub _∈_ : {A : Type 0} → A → List A → Type 0
-x ∈ l = List·Memᴰ x l
 
 -- Finitely many terms: a coefficient and a monomial each.
 abbrev pub Poly : Type 0 → Type 0 → Type 0

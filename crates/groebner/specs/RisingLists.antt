@@ -1,15 +1,9 @@
--- Rising lists of monomials, for any order.
---   RisingList lt l      each element of l is smaller than all that follow it
+-- Inner contracts. Rising lists of monomials, for any order.
 --   ListsRising lt P l   l lists the monomials that have P, in rising order
 --   leads G              the leading monomials of the lines G
-use mathlib.Core.List.{List, [], _∷_, map}
-use Rattle.groebner.specs.Polynomials.{_∈_}
-use Rattle.groebner.specs.Lines.{Line}
-
--- Each element is smaller than all that follow it.
-abbrev pub RisingList : {M : Type 0} → (M → M → Type 0) → List M → Type 0
-RisingList lt [] = Unit
-RisingList {M} lt (x ∷ l) = ((y : M) → y ∈ l → lt x y) × RisingList lt l
+use mathlib.Core.List.{List, map}
+use Rattle.lists.specs.Lists.{_∈_}
+use Rattle.groebner.specs.Lines.{Line, RisingList}
 
 -- The monomials that have P, in rising order.
 pub record ListsRising {M : Type 0} (lt : M → M → Type 0) (P : M → Type 0) (l : List M) : Type 0 where

@@ -1,18 +1,18 @@
 -- Two numbers compared, and what decides where they are equal.
---   compared-less        Less says that the first number is smaller
---   compared-equal       Equal says that the numbers are equal
---   compared-greater     Greater says that the first number is larger
---   compared-sum         a number added to both changes no answer
---   equal-not-less       Equal is not Less
---   equal-not-greater    Equal is not Greater
---   then c r             the answer c, or r where c is Equal
---   then-less            Less says: smaller, or equal and then Less
---   then-greater         Greater says: larger, or equal and then Greater
---   then-equal           Equal says: equal and then Equal
---   otherwise            the second case of such a statement, replaced part by part
---   Below f R            smaller by the number f and, where it is equal, by the relation R
---   below-wf   that is well-founded if R is
---   comparison-order     a three-way comparison that gives a monomial ordering
+--   compared-less       Less says that the first number is smaller
+--   compared-equal      Equal says that the numbers are equal
+--   compared-greater    Greater says that the first number is larger
+--   compared-sum        a number added to both changes no answer
+--   equal-not-less      Equal is not Less
+--   equal-not-greater   Equal is not Greater
+--   then c r            the answer c, or r where c is Equal
+--   then-less           Less says: smaller, or equal and then Less
+--   then-greater        Greater says: larger, or equal and then Greater
+--   then-equal          Equal says: equal and then Equal
+--   otherwise           the second case of such a statement, replaced part by part
+--   BelowBy f R         smaller by the number f and, where it is equal, by the relation R
+--   below-wf            that is well-founded if R is
+--   comparison-order    a three-way comparison that gives a monomial ordering
 use mathlib.Core.Path.{_≡_, refl, _∙_, subst}
 use mathlib.Core.Logic.{_↔_, _⊎_, inl, inr, ⊎-elim, ⊎-map}
 use mathlib.Core.WellFounded.{Acc, Acc·intro, WellFounded}
@@ -23,7 +23,8 @@ use lib.Dec.{ltb}
 use lib.WfN.{Nat·lt-wfRel}
 use borrow.Author.Tests.{ltb-true, ltb-false, lt-ltb, le-ltb}
 use Rattle.monomial.specs.Orders.{compared}
-use Rattle.monomial.specs.Ordering.{Monomials, MonomialOrder, Before}
+use Rattle.monomial.specs.Ordering.{Monomials, LessBy}
+use Rattle.monomial.specs.OrderLaws.{MonomialOrder}
 use Rattle.monomial.specs.declared.order.Comparison.{Comparison}
 use Rattle.monomial.specs.declared.order.Comparison.the-variants.{Less, Equal, Greater}
 use Rattle.monomial.proofs.AnyOrder.{transitive-of}
@@ -107,31 +108,31 @@ pub otherwise : {A B C D E : Type 0} → B ↔ D → C ↔ E → (A ⊎ (B × C)
 otherwise f g = (⊎-map (λ a. a) (λ p. (f .0 (p .0), g .0 (p .1))), ⊎-map (λ a. a) (λ p. (f .1 (p .0), g .1 (p .1))))
 
 -- Smaller by f and, where f is equal, by R.
-abbrev pub Below : {M : Type 0} → (M → ℕ) → (M → M → Type 0) → M → M → Type 0
-Below f R a b = (f a < f b) ⊎ ((f a ≡ f b) × R a b)
+abbrev pub BelowBy : {M : Type 0} → (M → ℕ) → (M → M → Type 0) → M → M → Type 0
+BelowBy f R a b = (f a < f b) ⊎ ((f a ≡ f b) × R a b)
 
 module _ {M : Type 0} (f : M → ℕ) {R : M → M → Type 0} (wf : WellFounded R) where
   -- At the value k of f, given all below k: by induction on R.
-  at-value : (k : ℕ) → ((a : M) → f a < k → Acc (Below f R) a) → {a : M} → Acc R a → f a ≡ k → Acc (Below f R) a
+  at-value : (k : ℕ) → ((a : M) → f a < k → Acc (BelowBy f R) a) → {a : M} → Acc R a → f a ≡ k → Acc (BelowBy f R) a
   at-value k lower (Acc·intro a h) e = Acc·intro a (λ b. ⊎-elim (λ l. lower b (omega arith)) (λ p. at-value k lower (h b (p .1)) (p .0 ∙ e)))
 
   -- At every value: by induction on k.
-  at-every-value : {k : ℕ} → Acc _<_ k → (a : M) → f a ≡ k → Acc (Below f R) a
+  at-every-value : {k : ℕ} → Acc _<_ k → (a : M) → f a ≡ k → Acc (BelowBy f R) a
   at-every-value (Acc·intro k h) a e = at-value k (λ b l. at-every-value (h (f b) l) b refl) (wf .apply a) e
 
-  pub below-wf : WellFounded (Below f R)
+  pub below-wf : WellFounded (BelowBy f R)
   below-wf = record { apply = λ a. at-every-value (Nat·lt-wfRel .wf .apply (f a)) a refl }
 
 -- It calls only equals equal, turns round with its arguments, is unchanged by products, and is well-founded.
 module _ {M : Type 0} (𝓜 : Monomials M) (compare : M → M → Comparison) where
   pub comparison-order : ((a b : M) → compare a b ≡ Equal → a ≡ b) → ((a b : M) → compare a b ≡ Greater → compare b a ≡ Less)
-      → ((u a b : M) → compare (𝓜 .mul u a) (𝓜 .mul u b) ≡ compare a b) → WellFounded (Before compare) → MonomialOrder 𝓜 (Before compare)
+      → ((u a b : M) → compare (𝓜 .mul u a) (𝓜 .mul u b) ≡ compare a b) → WellFounded (LessBy compare) → MonomialOrder 𝓜 (LessBy compare)
   comparison-order equal flip product wf = record { total = total; trans = transitive-of total wf; mono = λ u {a} {b} l. product u a b ∙ l; wf = wf }
     where
-      total : (a b : M) → Before compare a b ⊎ ((a ≡ b) ⊎ Before compare b a)
+      total : (a b : M) → LessBy compare a b ⊎ ((a ≡ b) ⊎ LessBy compare b a)
       total a b = go (compare a b) refl
         where
-          go : (c : Comparison) → compare a b ≡ c → Before compare a b ⊎ ((a ≡ b) ⊎ Before compare b a)
+          go : (c : Comparison) → compare a b ≡ c → LessBy compare a b ⊎ ((a ≡ b) ⊎ LessBy compare b a)
           go Less e = inl e
           go Equal e = inr (inl (equal a b e))
           go Greater e = inr (inr (flip a b e))

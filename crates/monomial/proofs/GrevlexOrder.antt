@@ -1,14 +1,14 @@
 -- Grevlex is a monomial ordering.
---   grevlex-then          the degrees decide, and then lex from the last variable on, with a and b exchanged
---   grevlex-tie           at equal degree that lex decides
---   grevlex-less          what Less says
---   grevlex-greater       what Greater says
---   grevlex-equal         only equal rows are called equal
---   grevlex-flip          b against a is a against b, turned round
---   grevlex-product       a monomial multiplied to both changes no answer
---   grevlex-order         grevlex is a monomial ordering
---   Rightmost n k a b     of the first k entries of a - b, the rightmost nonzero one is negative
---   grevlex-rightmost     the degree is higher, or it is equal and the rightmost nonzero entry of a - b is negative (document 01)
+--   grevlex-then        the degrees decide, and then lex from the last variable on, with a and b exchanged
+--   grevlex-tie         at equal degree that lex decides
+--   grevlex-less        what Less says
+--   grevlex-greater     what Greater says
+--   grevlex-equal       only equal rows are called equal
+--   grevlex-flip        b against a is a against b, turned round
+--   grevlex-product     a monomial multiplied to both changes no answer
+--   grevlex-order       grevlex is a monomial ordering
+--   Rightmost n k a b   of the first k entries of a - b, the rightmost nonzero one is negative
+--   grevlex-rightmost   the degree is higher, or it is equal and the rightmost nonzero entry of a - b is negative (document 01)
 use mathlib.Core.Path.{_≡_, refl, sym, ap}
 use mathlib.Core.Logic.{_↔_, _⊎_, inl, inr, ⊎-elim, ⊎-map, Iff·rfl, Iff·symm, Iff·trans}
 use mathlib.Core.WellFounded.{WellFounded, Acc·intro, Subrelation·wf}
@@ -17,11 +17,12 @@ use native.Mathlib.Decide.{ℕ-discrete}
 use native.Mathlib.Omega.{arith}
 use Rattle.monomial.specs.Rows.{Row, exponent, product, degree}
 use Rattle.monomial.specs.Orders.{compared, lex, backwards, grevlex}
-use Rattle.monomial.specs.Ordering.{MonomialOrder, rows, Before}
+use Rattle.monomial.specs.Ordering.{monomials, LessBy}
+use Rattle.monomial.specs.OrderLaws.{MonomialOrder}
 use Rattle.monomial.specs.declared.order.Comparison.the-variants.{Less, Equal, Greater}
 use Rattle.monomial.proofs.Products.{degree-product}
-use Rattle.monomial.proofs.Comparisons.{compared-equal, compared-sum, equal-not-less, equal-not-greater}
-use Rattle.monomial.proofs.Comparisons.{then, then-less, then-equal, then-greater, otherwise, Below, below-wf, comparison-order}
+use Rattle.monomial.proofs.Comparisons.{compared-equal, compared-sum, equal-not-less, equal-not-greater, then, then-less, then-equal, then-greater}
+use Rattle.monomial.proofs.Comparisons.{otherwise, BelowBy, below-wf, comparison-order}
 use Rattle.monomial.proofs.LexOrder.{lex-cons-less, lex-cons-greater, lex-flip, lex-equal, lex-product, backwards-rank}
 
 module _ (n : ℕ) (a b : Row n) where
@@ -77,18 +78,18 @@ unfolding lex backwards
 reversed-wf n zero = record { apply = λ a. Acc·intro a (λ b p. absurd (equal-not-less (p .1))) }
 reversed-wf n (suc k) = Subrelation·wf smaller (below-wf (prefixSum n k) (reversed-wf n k))
   where
-    smaller : (a b : Row n) → Reversed n (suc k) a b → Below (prefixSum n k) (Reversed n k) a b
+    smaller : (a b : Row n) → Reversed n (suc k) a b → BelowBy (prefixSum n k) (Reversed n k) a b
     smaller a b (e, l) = ⊎-map (λ h. omega arith) (λ p. let q : prefixSum n k a ≡ prefixSum n k b = omega arith in (q, (q, p .1))) (lex-cons-less n k (backwards k) b a .0 l)
 
-grevlex-wf : (n : ℕ) → WellFounded (Before (grevlex n))
+grevlex-wf : (n : ℕ) → WellFounded (LessBy (grevlex n))
 grevlex-wf n = Subrelation·wf smaller (below-wf (prefixSum n n) (reversed-wf n n))
   where
-    smaller : (a b : Row n) → grevlex n a b ≡ Less → Below (prefixSum n n) (Reversed n n) a b
+    smaller : (a b : Row n) → grevlex n a b ≡ Less → BelowBy (prefixSum n n) (Reversed n n) a b
     smaller a b e = rw (← degree-prefix-sum n a, ← degree-prefix-sum n b) (⊎-map (λ l. l) (λ p. (p .0, p)) (grevlex-less n a b .0 e))
 
-pub grevlex-order : (n : ℕ) → MonomialOrder (rows n) (Before (grevlex n))
-unfolding rows
-grevlex-order n = comparison-order (rows n) (grevlex n) (λ a b. grevlex-equal n a b .0) (λ a b. grevlex-flip n a b .0) (grevlex-product n) (grevlex-wf n)
+pub grevlex-order : (n : ℕ) → MonomialOrder (monomials n) (LessBy (grevlex n))
+unfolding monomials
+grevlex-order n = comparison-order (monomials n) (grevlex n) (λ a b. grevlex-equal n a b .0) (λ a b. grevlex-flip n a b .0) (grevlex-product n) (grevlex-wf n)
 
 -- Of the first k variables, i is the last in which the exponents differ, and its exponent in a is the smaller.
 abbrev pub Rightmost : (n k : ℕ) → Row n → Row n → Type 0

@@ -23,12 +23,12 @@ use native.Mathlib.Decide.{ℕ-discrete}
 use native.Mathlib.Omega.{arith}
 use lib.ListN.{length, getD}
 use Rattle.monomial.specs.Rows.{Row, exponent, product}
-use Rattle.monomial.specs.Orders.{compared, lex, variablesFrom, variables, backwards, Ranks}
-use Rattle.monomial.specs.Ordering.{MonomialOrder, rows, Before}
+use Rattle.monomial.specs.Orders.{compared, lex, variablesFrom, variables, backwards}
+use Rattle.monomial.specs.Ordering.{monomials, LessBy}
+use Rattle.monomial.specs.OrderLaws.{MonomialOrder, Ranks}
 use Rattle.monomial.specs.declared.order.Comparison.the-variants.{Less, Equal, Greater}
 use Rattle.monomial.proofs.Products.{row-extensional, exponent-product}
-use Rattle.monomial.proofs.Comparisons.{compared-sum, equal-not-less, equal-not-greater}
-use Rattle.monomial.proofs.Comparisons.{then, then-less, then-equal, then-greater, otherwise, below-wf, comparison-order}
+use Rattle.monomial.proofs.Comparisons.{compared-sum, equal-not-less, equal-not-greater, then, then-less, then-equal, then-greater, otherwise, below-wf, comparison-order}
 
 module _ (n i : ℕ) (s : List ℕ) (a b : Row n) where
   pub lex-cons : lex n (i ∷ s) a b ≡ then (compared (exponent n a i) (exponent n b i)) (lex n s a b)
@@ -68,7 +68,7 @@ lex-self n [] a = refl
 lex-self n (i ∷ s) a = lex-cons-equal n i s a a .1 (refl, lex-self n s a)
 
 -- Smaller in the first variable of the list and, where that is equal, in the others: by induction on the list.
-lex-wf : (n : ℕ) (s : List ℕ) → WellFounded (Before (lex n s))
+lex-wf : (n : ℕ) (s : List ℕ) → WellFounded (LessBy (lex n s))
 unfolding lex
 lex-wf n [] = record { apply = λ a. Acc·intro a (λ b e. absurd (equal-not-less e)) }
 lex-wf n (i ∷ s) = Subrelation·wf (λ a b. lex-cons-less n i s a b .0) (below-wf (λ a. exponent n a i) (lex-wf n s))
@@ -77,9 +77,9 @@ module _ (n : ℕ) (s : List ℕ) (ranks : Ranks n s) where
   pub lex-equal : (a b : Row n) → (lex n s a b ≡ Equal) ↔ (a ≡ b)
   lex-equal a b = (λ e. row-extensional n (λ i h. lex-same n (ranks i h) a b e), λ e. rw e (lex-self n s b))
 
-  pub lex-order : MonomialOrder (rows n) (Before (lex n s))
-  unfolding rows
-  lex-order = comparison-order (rows n) (lex n s) (λ a b. lex-equal a b .0) (λ a b. lex-flip n s a b .0) (lex-product n s) (lex-wf n s)
+  pub lex-order : MonomialOrder (monomials n) (LessBy (lex n s))
+  unfolding monomials
+  lex-order = comparison-order (monomials n) (lex n s) (λ a b. lex-equal a b .0) (λ a b. lex-flip n s a b .0) (lex-product n s) (lex-wf n s)
 
 -- There is a place i of the list such that the exponents of the variables at all earlier places j are equal, and that of the variable at i is larger in a.
 abbrev pub Leftmost : (n : ℕ) → List ℕ → Row n → Row n → Type 0

@@ -11,7 +11,7 @@ use native.Mathlib.Numerals.{add-one}
 use native.Mathlib.Omega.{arith}
 use lib.ListN.{length, getD}
 use Rattle.monomial.specs.Rows.{Row, exponent, degree}
-use Rattle.monomial.specs.Represented.{rowOf, row, exponents, monomial}
+use Rattle.monomial.specs.Represented.{rowOf, row, exponentList, monomial}
 use Rattle.monomial.specs.declared.Exponent.{Exponent}
 use Rattle.monomial.specs.declared.Monomial.{Monomial}
 
@@ -24,19 +24,19 @@ exponent-row (suc n) zero (x ∷ l) h = refl
 exponent-row (suc n) (suc i) [] h = exponent-row n i [] (omega arith)
 exponent-row (suc n) (suc i) (x ∷ l) h = exponent-row n i l (omega arith)
 
-pub exponents-at : (n i : ℕ) (a : Row n) (d : Exponent) → i < n → getD (exponents n a) i d .0 ≡ exponent n a i
-unfolding exponent exponents
+pub exponents-at : (n i : ℕ) (a : Row n) (d : Exponent) → i < n → getD (exponentList n a) i d .0 ≡ exponent n a i
+unfolding exponent exponentList
 exponents-at zero i a d h = absurd (omega arith)
 exponents-at (suc n) zero a d h = refl
 exponents-at (suc n) (suc i) a d h = exponents-at n i (a .1) d (omega arith)
 
-pub exponents-length : (n : ℕ) (a : Row n) → length (exponents n a) ≡ n
-unfolding exponents
+pub exponents-length : (n : ℕ) (a : Row n) → length (exponentList n a) ≡ n
+unfolding exponentList
 exponents-length zero a = refl
 exponents-length (suc n) a = ap suc (exponents-length n (a .1))
 
-row-exponents : (n : ℕ) (a : Row n) (l : List Exponent) → rowOf n (exponents n a ++ l) ≡ a
-unfolding rowOf exponents
+row-exponents : (n : ℕ) (a : Row n) (l : List Exponent) → rowOf n (exponentList n a ++ l) ≡ a
+unfolding rowOf exponentList
 row-exponents zero a l = refl
 row-exponents (suc n) a l = λ k. (a .0, row-exponents n (a .1) l k)
 

@@ -15,7 +15,6 @@
 --   divides-iff         the test says that b is a product of a
 --   lcm-least           lcm a b is the least common multiple
 --   one-at              the test says that all exponents are 0
---   one-iff             the test says that a is 1
 --   power-at            the test says that all exponents but that of variable v are 0
 --   rows-laws           the rows meet what the theory asks of monomials
 use mathlib.Core.Path.{_≡_, refl, sym, ap₂}
@@ -24,8 +23,10 @@ use mathlib.Core.Bool.{Bool, true, false, Bool-discrete, false≢true}
 use Prim.Native.Nat.{ℕ, zero, suc, _+_, _-_, _≤_, _<_, max}
 use native.Mathlib.Omega.{arith}
 use borrow.Author.Tests.{leb-true, le-leb, eqb-true, eq-eqb}
-use Rattle.monomial.specs.Rows.{Row, exponent, one, product, quotient, lcm, degree, divides, isOne, isPower}
-use Rattle.monomial.specs.Ordering.{Divides, Lcm, MonomialLaws, rows}
+use Rattle.monomial.specs.Rows.{Row, exponent, one, product, degree}
+use Rattle.monomial.specs.Quotients.{quotient, lcm, divides, isOne, isPower}
+use Rattle.monomial.specs.Ordering.{Divides, Lcm, monomials}
+use Rattle.monomial.specs.OrderLaws.{MonomialLaws}
 
 pub row-extensional : (n : ℕ) {a b : Row n} → ((i : ℕ) → i < n → exponent n a i ≡ exponent n b i) → a ≡ b
 unfolding exponent
@@ -101,31 +102,28 @@ module _ (n : ℕ) where
   pub one-product : (a : Row n) → product n (one n) a ≡ a
   one-product a = row-extensional n (λ i h. simp exponents (omega arith))
 
-  pub one-iff : (a : Row n) → (isOne n a ≡ true) ↔ (a ≡ one n)
-  one-iff a = Iff·trans (one-at n a) (λ z. row-extensional n (λ i h. simp exponents (z i h)), λ e i h. rw e (exponent-one n i))
-
   pub quotient-product : (u a : Row n) → quotient n (product n u a) a ≡ u
   quotient-product u a = row-extensional n (λ i h. simp exponents (omega arith))
 
   pub product-quotient : (a b : Row n) → divides n b a ≡ true → product n (quotient n a b) b ≡ a
   product-quotient a b e = row-extensional n (λ i h. simp exponents (omega (arith, divides-at n b a .0 e i h)))
 
-  pub divisible-at : (a b : Row n) → Divides (rows n) a b ↔ ((i : ℕ) → i < n → exponent n a i ≤ exponent n b i)
-  unfolding rows
+  pub divisible-at : (a b : Row n) → Divides (monomials n) a b ↔ ((i : ℕ) → i < n → exponent n a i ≤ exponent n b i)
+  unfolding monomials
   divisible-at a b = (λ d i h. rw (d .1) (simp exponents (omega arith)), λ l. (quotient n b a, sym (product-quotient b a (divides-at n a b .1 l))))
 
-  pub divides-iff : (a b : Row n) → (divides n a b ≡ true) ↔ Divides (rows n) a b
+  pub divides-iff : (a b : Row n) → (divides n a b ≡ true) ↔ Divides (monomials n) a b
   divides-iff a b = Iff·trans (divides-at n a b) (Iff·symm (divisible-at a b))
 
-  pub lcm-least : (a b : Row n) → Lcm (rows n) a b (lcm n a b)
+  pub lcm-least : (a b : Row n) → Lcm (monomials n) a b (lcm n a b)
   lcm-least a b = record {
     left = divisible-at a (lcm n a b) .1 (λ i h. simp exponents (omega arith));
     right = divisible-at b (lcm n a b) .1 (λ i h. simp exponents (omega arith));
     least = λ k p q. divisible-at (lcm n a b) k .1 (λ i h. simp exponents (omega (arith, divisible-at a k .0 p i h, divisible-at b k .0 q i h)));
   }
 
-  pub rows-laws : MonomialLaws (rows n)
-  unfolding rows
+  pub rows-laws : MonomialLaws (monomials n)
+  unfolding monomials
   rows-laws = record {
     mul-assoc = product-assoc;
     mul-comm = product-comm;

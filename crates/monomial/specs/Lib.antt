@@ -1,11 +1,23 @@
--- The definitions of the crate `monomial`:
---   Sizes         the largest number of variables and the largest exponent
---   Rows          monomials as rows of n exponents: product, quotient, divisibility, least common multiple
---   Orders        lex over a list of variables, and grevlex
---   Ordering      monomials as a structure, and monomial orderings (001, definition 1.4)
---   Represented   the row that a value of the code holds
+-- The definitions of the crate `monomial`.
+-- Believed:
+--   Sizes           the largest number of variables and the largest exponent
+--   Rows            monomials as rows of n exponents: products, degrees, powers
+--   Orders          lex over a list of variables, and grevlex
+--   Ordering        monomials as a structure, and the orders as relations
+-- Inner contracts:
+--   Quotients       quotients, least common multiples, divisibility, powers of a variable
+--   OrderLaws       monomial orderings (001, definition 1.4), and what the theory asks of monomials
+--   Represented     the row that a value of the code holds
+--   FirstVariable   the first variable of a monomial
+--   Least           the place with the least value
+--   Ranks           ranks of monomials
 pub mod Sizes
 pub mod Rows
+pub mod Quotients
 pub mod Orders
 pub mod Ordering
+pub mod OrderLaws
 pub mod Represented
+pub mod FirstVariable
+pub mod Least
+pub mod Ranks

@@ -1,16 +1,12 @@
--- Monomials as a structure, and monomial orderings.
---   Monomials M         1, products and a decision of equality on M
---   Divides a b         b is a multiple of a
---   Lcm a b m           m is the least common multiple of a and b
---   MonomialLaws 𝓜      what the theory asks of monomials
---   MonomialOrder lt    lt is a monomial ordering (001, definition 1.4)
---   row? n              the decision of equality of rows
---   rows n              the monomials in n variables
---   Before compare      the relation "smaller" of a three-way comparison
---   Lex n s, Grevlex n  the orders of document 01 as relations
+-- Believed. Monomials as a structure, and the orders of document 01 as relations.
+--   Monomials M          1, products and a decision of equality on M
+--   Divides 𝓜 a b        b is a multiple of a
+--   Lcm 𝓜 a b m          m is the least common multiple of a and b
+--   row? n               the decision of equality of rows
+--   monomials n          the monomials in n variables
+--   LessBy compare       the relation "smaller" of a three-way comparison
+--   Lex n s, Grevlex n   the orders of document 01 as relations
 use mathlib.Core.Path.{_≡_, refl, ap}
-use mathlib.Core.Logic.{_⊎_}
-use mathlib.Core.WellFounded.{WellFounded}
 use Prim.Native.Nat.{ℕ, zero, suc}
 use native.Mathlib.Decide.{ℕ-discrete}
 use mathlib.Core.List.{List}
@@ -35,21 +31,6 @@ pub record Lcm {M : Type 0} (𝓜 : Monomials M) (a b m : M) : Type 0 where
   pub right : Divides 𝓜 b m
   pub least : (k : M) → Divides 𝓜 a k → Divides 𝓜 b k → Divides 𝓜 m k
 
--- A commutative monoid in which divisibility is decided and least common multiples exist.
-pub record MonomialLaws {M : Type 0} (𝓜 : Monomials M) : Type 0 where
-  pub mul-assoc : (a b c : M) → 𝓜 .mul (𝓜 .mul a b) c ≡ 𝓜 .mul a (𝓜 .mul b c)
-  pub mul-comm : (a b : M) → 𝓜 .mul a b ≡ 𝓜 .mul b a
-  pub one-mul : (a : M) → 𝓜 .mul (𝓜 .one) a ≡ a
-  pub divides? : (a b : M) → Dec (Divides 𝓜 a b)
-  pub lcm : (a b : M) → (m : M) × Lcm 𝓜 a b m
-
--- A monomial ordering (001, definition 1.4): total, compatible with products, and a well-ordering.
-pub record MonomialOrder {M : Type 0} (𝓜 : Monomials M) (lt : M → M → Type 0) : Type 0 where
-  pub total : (a b : M) → lt a b ⊎ ((a ≡ b) ⊎ lt b a)
-  pub trans : {a b c : M} → lt a b → lt b c → lt a c
-  pub mono : (u : M) {a b : M} → lt a b → lt (𝓜 .mul u a) (𝓜 .mul u b)
-  pub wf : WellFounded lt
-
 -- Two pairs, compared part by part.
 abbrev pair? : {A B : Type 0} (x y : A × B) → Dec (x .0 ≡ y .0) → Dec (x .1 ≡ y .1) → Dec (x ≡ y)
 pair? x y (no p) d = no (λ e. p (ap (λ z. z .0) e))
@@ -63,18 +44,18 @@ row? zero a b = yes refl
 row? (suc n) a b = pair? a b (ℕ-discrete (a .0) (b .0)) (row? n (a .1) (b .1))
 
 -- The monomials in n variables.
-unfoldable pub rows : (n : ℕ) → Monomials (Row n)
+unfoldable pub monomials : (n : ℕ) → Monomials (Row n)
 unfolding one product row?
-rows n = record { one = one n; mul = product n; same? = row? n }
+monomials n = record { one = one n; mul = product n; same? = row? n }
 
 -- a is smaller than b, by a three-way comparison.
-abbrev pub Before : {M : Type 0} → (M → M → Comparison) → M → M → Type 0
-Before compare a b = compare a b ≡ Less
+abbrev pub LessBy : {M : Type 0} → (M → M → Comparison) → M → M → Type 0
+LessBy compare a b = compare a b ≡ Less
 
 -- a is smaller than b in lex over the variables of the list s, greatest first.
 abbrev pub Lex : (n : ℕ) → List ℕ → Row n → Row n → Type 0
-Lex n s = Before (lex n s)
+Lex n s = LessBy (lex n s)
 
 -- a is smaller than b in grevlex.
 abbrev pub Grevlex : (n : ℕ) → Row n → Row n → Type 0
-Grevlex n = Before (grevlex n)
+Grevlex n = LessBy (grevlex n)

@@ -1,14 +1,13 @@
--- Lex and grevlex (document 01, "Words and orders"; 001 and 002).
+-- Believed. Lex and grevlex (document 01, "Words and orders"; 001 and 002).
 --   compared x y        two numbers, three-way
 --   lex n s a b         lex over the variables of the list s, greatest first
 --   variablesFrom i k   the k variables from i on
 --   variables n         x1 > x2 > .. > xn, document 01's order of the variables
 --   backwards n         xn, .., x2, x1
---   Ranks n s           the list s ranks all n variables
 --   grevlex n a b       grevlex
 use mathlib.Core.Bool.{true, false}
-use mathlib.Core.List.{List, [], _∷_, List·Memᴰ}
-use Prim.Native.Nat.{ℕ, zero, suc, _<_}
+use mathlib.Core.List.{List, [], _∷_}
+use Prim.Native.Nat.{ℕ, zero, suc}
 use lib.Dec.{ltb}
 use Rattle.monomial.specs.Rows.{Row, exponent, degree}
 use Rattle.monomial.specs.declared.order.Comparison.{Comparison}
@@ -39,10 +38,6 @@ variables n = variablesFrom 0 n
 unfoldable pub backwards : ℕ → List ℕ
 backwards zero = []
 backwards (suc k) = k ∷ backwards k
-
--- Each of the n variables stands in the list.
-abbrev pub Ranks : ℕ → List ℕ → Type 0
-Ranks n s = (i : ℕ) → i < n → List·Memᴰ i s
 
 -- Grevlex: the higher total degree is greater; at equal degree a is greater when the rightmost nonzero entry of a - b is negative (document 01):
 -- read from the last variable, b is greater.

@@ -1,8 +1,9 @@
--- The row of exponents that a value of the code holds.
---   rowOf n l       the first n numbers of a list of exponents
---   row n m         the first n exponents of m
---   exponents n a   the exponents of a row, as a list
---   monomial n a    the value with the exponents a, and 0 from place n on
+-- Inner contracts. The row of exponents that a value of the code holds.
+--   rowOf n l          the first n numbers of a list of exponents
+--   row n m            the first n exponents of m
+--   exponentList n a   the exponents of a row, as a list
+--   monomial n a       the value with the exponents a, and 0 from place n on
+--   most-entry         the largest number that an exponent of the code holds
 use mathlib.Core.List.{List, [], _∷_, _++_}
 use Prim.Native.Nat.{ℕ, zero, suc, _-_}
 use lib.ListN.{replicate}
@@ -23,11 +24,15 @@ unfolding rowOf
 row n m = rowOf n (m .e)
 
 -- The exponents of a row.
-unfoldable pub exponents : (n : ℕ) → Row n → List Exponent
-exponents zero a = []
-exponents (suc n) a = record { 0 = a .0 } ∷ exponents n (a .1)
+unfoldable pub exponentList : (n : ℕ) → Row n → List Exponent
+exponentList zero a = []
+exponentList (suc n) a = record { 0 = a .0 } ∷ exponentList n (a .1)
 
 -- The value with the exponents a, and 0 from place n on.
 unfoldable pub monomial : (n : ℕ) → Row n → Monomial
-unfolding exponents
-monomial n a = record { e = exponents n a ++ replicate (most-variables - n) (record { 0 = 0 }) }
+unfolding exponentList
+monomial n a = record { e = exponentList n a ++ replicate (most-variables - n) (record { 0 = 0 }) }
+
+-- What 8 bits hold.
+abbrev pub most-entry : ℕ
+most-entry = 255

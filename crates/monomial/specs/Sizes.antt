@@ -1,8 +1,8 @@
--- The sizes of a monomial (document 01, refusals 5 and 7).
---   most-variables   4
---   most-exponent    32
---   most-entry       the largest number that an exponent of the code holds
-use Prim.Native.Nat.{ℕ}
+-- Believed. The sizes of a monomial (document 01, refusals 5 and 7).
+--   most-variables    4
+--   most-exponent     32
+--   VariableCount n   n is 1 to 4
+use Prim.Native.Nat.{ℕ, _≤_}
 
 -- n is 1 to 4 (document 01, refusal 5).
 abbrev pub most-variables : ℕ
@@ -12,6 +12,7 @@ most-variables = 4
 abbrev pub most-exponent : ℕ
 most-exponent = 32
 
--- What 8 bits hold.
-abbrev pub most-entry : ℕ
-most-entry = 255
+-- n is a number of variables of the format: 1 to 4 (document 01, refusal 5).
+pub record VariableCount (n : ℕ) : Type 0 where
+  pub some : 1 ≤ n
+  pub most : n ≤ most-variables

@@ -2,18 +2,18 @@
 ghost use mathlib.Core.Path.{_≡_};
 ghost use Prim.Native.Nat.{_≤_};
 ghost use Rattle.monomial.specs.Sizes.{«most-variables»};
-ghost use Rattle.monomial.specs.Rows.{divides, isPower};
+ghost use Rattle.monomial.specs.Quotients.{divides, isPower};
 ghost use Rattle.monomial.specs.Represented.{row};
 use crate::Monomial;
 
 impl Monomial {
-    pub fn divides(self, b: Monomial, n: usize) -> bool
+    pub fn divides(self, other: Monomial, n: usize) -> bool
         requires { ⌜ n ≤ most-variables ⌝ }
-        ensures { λ r. ⌜ r ≡ divides n (row n self) (row n b) ⌝ }
+        ensures { λ r. ⌜ r ≡ divides n (row n self) (row n other) ⌝ }
     {
         let mut i: usize = 0;
         while i < n {
-            if b.exponent(i).0 < self.exponent(i).0 {
+            if other.exponent(i).0 < self.exponent(i).0 {
                 return false;
             }
             i += 1;

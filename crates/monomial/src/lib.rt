@@ -2,9 +2,11 @@
 //
 //   Exponent      an exponent, a type of its own so that a coefficient cannot pass as one
 //   Monomial      a row of exponents; the places from n on are 0
-//   order         three-way comparison in lex and in grevlex
+//   order         three-way comparison in grevlex, and rankings of the variables
 //   arithmetic    product, quotient, least common multiple
 //   divisibility  divides, and the test for a power of one variable
+//   variable      the variables, the first one of a monomial, and quotients by them
+//   rank          monomials as numbers, in grevlex order
 ghost use mathlib.Core.Path.{_≡_};
 ghost use Prim.Native.Nat.{ℕ, _<_};
 ghost use Rattle.monomial.specs.Sizes.{«most-variables», «most-exponent»};
@@ -14,12 +16,14 @@ ghost use Rattle.monomial.specs.Represented.{row};
 pub mod arithmetic;
 pub mod divisibility;
 pub mod order;
+pub mod rank;
+pub mod variable;
 
 // The largest number of variables, which the definitions have as most-variables.
 pub const MAX_VARIABLES: usize = 4;
 
 // The largest exponent of a text, which the definitions have as most-exponent.
-pub const MAX_EXPONENT: u16 = 32;
+pub const MAX_EXPONENT: u8 = 32;
 
 pub struct Exponent(pub u8);
 
@@ -43,7 +47,7 @@ pub fn max_variables() -> usize
     MAX_VARIABLES
 }
 
-pub fn max_exponent() -> u16
+pub fn max_exponent() -> u8
     ensures { λ r. ⌜ r ≡ most-exponent ⌝ }
 {
     MAX_EXPONENT

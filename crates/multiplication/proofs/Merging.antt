@@ -9,21 +9,20 @@ use native.Mathlib.Omega.{arith}
 use lib.ListN.{length}
 use Rattle.residue.specs.Field.{ZMod, modulo}
 use Rattle.monomial.specs.Rows.{Row, one, product}
-use Rattle.monomial.specs.Ordering.{Grevlex, rows}
+use Rattle.monomial.specs.Quotients.{variable}
+use Rattle.monomial.specs.Ordering.{Grevlex, monomials}
 use Rattle.monomial.proofs.GrevlexOrder.{grevlex-order}
-use Rattle.groebner.specs.Lines.{Line}
-use Rattle.groebner.specs.Variables.{variable}
-use Rattle.groebner.specs.RisingLists.{RisingList}
-use Rattle.multiplication.specs.Listed.{listed, listedAt}
-use Rattle.multiplication.specs.Cursors.{cursor, nextProduct, Best}
-use Rattle.reduction.specs.declared.irreducible.Irreducibles.{Irreducibles}
+use Rattle.groebner.specs.Lines.{Line, RisingList}
+use Rattle.staircase.specs.Listed.{listed, listedAt}
+use Rattle.staircase.specs.declared.irreducible.Irreducibles.{Irreducibles}
+use Rattle.staircase.proofs.RisingPlaces.{rising-at}
+use Rattle.multiplication.proofs.NextProducts.{cursor, nextProduct, Best}
 use Rattle.multiplication.specs.declared.fill.Cursors.{Cursors}
-use Rattle.multiplication.proofs.RisingPlaces.{rising-at}
-use Rattle.multiplication.proofs.RowFilling.{Smaller}
+use Rattle.multiplication.proofs.RowFilling.{SmallerFilled}
 
 pub best-smaller : {p : ℕ} (h : 1 < p) (n : ℕ) (G : List (Line (ZMod p) (Row n))) (l : Irreducibles) (c : Cursors) (i : ℕ) → length (listed n l) ≡ l .count → RisingList (Grevlex n) (listed n l)
-    → Best n l c i n → i < n → Smaller (modulo p h) n G (listed n l) (one n) (Grevlex n) (cursor c) i (cursor c i)
-unfolding rows
+    → Best n l c i n → i < n → SmallerFilled (modulo p h) n G (listed n l) (one n) (Grevlex n) (cursor c) i (cursor c i)
+unfolding monomials
 best-smaller h n G l c i e rising best hi j r hj hr lt = by-cases (decLt r (cursor c j)) (λ u. u) (λ u. absurd (best .least hi j hj (omega arith) (below u)))
   where
     below : ¬ (r < cursor c j) → Grevlex n (nextProduct n l c j) (nextProduct n l c i)

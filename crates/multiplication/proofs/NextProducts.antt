@@ -1,28 +1,52 @@
--- The next products, whose ranks the code holds.
---   product-rank-is   the rank that `product_rank` answers
---   nexts-first       the ranks of the first products
---   nexts-more        one of them changed, for the row after one that is filled
---   nexts-bounded     they are below above-ranks
---   nexts-best        the least of them is that of the smallest next product
+-- The next products of the variables, of which the smallest has its row filled next, and their ranks that the code holds.
+--   cursor c i            the number of the rows of x_i that are filled
+--   nextProduct n l c i   the next product of x_i
+--   Nexts n l c next      the ranks of the next products are held
+--   Best n l c best j     of the variables before x_j, `best` has the smallest next product; it is n where none of them has one
+--   product-rank-is       the rank that `product_rank` answers
+--   nexts-first           the ranks of the first products
+--   nexts-more            one of them changed, for the row after one that is filled
+--   nexts-bounded         they are below above-ranks
+--   nexts-best            the least of them is that of the smallest next product
 use mathlib.Core.Path.{_≡_, sym, _∙_, ap}
 use mathlib.Core.List.{List}
 use mathlib.Core.Logic.{by-cases}
-use Prim.Native.Nat.{ℕ, _+_, _<_}
+use Prim.Native.Nat.{ℕ, _+_, _≤_, _<_}
 use native.Mathlib.Decide.{ℕ-discrete, decLt}
 use native.Mathlib.Omega.{arith}
 use lib.ListN.{length, getD, set, length-set}
 use lib.Seq.{getD-set-same, getD-set-other}
 use Rattle.monomial.specs.Sizes.{most-variables}
-use Rattle.monomial.specs.Rows.{product}
-use Rattle.groebner.specs.Variables.{variable}
-use Rattle.reduction.specs.declared.irreducible.Irreducibles.{Irreducibles}
-use Rattle.multiplication.specs.Ranks.{rankOf, RanksOf, VariableRanks, Bounded, NextRank}
-use Rattle.multiplication.specs.Listed.{listed, listedAt}
-use Rattle.multiplication.specs.Cursors.{cursor, Listing, nextProduct, ProductRank, FirstRanks, Nexts, Best}
+use Rattle.monomial.specs.Rows.{Row, product}
+use Rattle.monomial.specs.Quotients.{variable}
+use Rattle.monomial.specs.Ordering.{Grevlex}
+use Rattle.monomial.specs.Least.{Least}
+use Rattle.monomial.specs.Ranks.{rankOf, RanksOf, VariableRanks, Bounded, NextRank}
+use Rattle.monomial.proofs.RankOrder.{rank-less, rank-product, rank-small}
+use Rattle.monomial.proofs.RankSearch.{least-as}
+use Rattle.staircase.specs.Listed.{listed, listedAt}
+use Rattle.staircase.specs.declared.irreducible.Irreducibles.{Irreducibles}
+use Rattle.multiplication.specs.RankedLists.{Listing, ProductRank, FirstRanks}
 use Rattle.multiplication.specs.declared.fill.Cursors.{Cursors}
-use Rattle.multiplication.proofs.RankOrder.{rank-less, rank-product, rank-small}
-use Rattle.multiplication.proofs.RankSearch.{least-as}
 use Rattle.multiplication.proofs.RankQuotients.{product-short, product-positive}
+
+-- The number of the rows of x_i that are filled.
+abbrev pub cursor : Cursors → ℕ → ℕ
+cursor c i = getD (c .at) i 0
+
+-- The next product of x_i.
+abbrev pub nextProduct : (n : ℕ) → Irreducibles → Cursors → ℕ → Row n
+nextProduct n l c i = product n (variable n i) (listedAt n l (cursor c i))
+
+-- The ranks of the next products are held, and 0 where there is none.
+pub record Nexts (n : ℕ) (l : Irreducibles) (c : Cursors) (next : List ℕ) : Type 0 where
+  pub size : length next ≡ most-variables
+  pub held : (i : ℕ) → i < n → cursor c i < l .count → getD next i 0 ≡ rankOf n (nextProduct n l c i)
+  pub none : (i : ℕ) → i < n → l .count ≤ cursor c i → getD next i 0 ≡ 0
+
+-- Of the variables before x_j, `best` has the smallest next product; it is n where none of them has one.
+abbrev pub Best : (n : ℕ) → Irreducibles → Cursors → (best j : ℕ) → Type 0
+Best n l c = Least n (Grevlex n) (λ k. cursor c k < l .count) (nextProduct n l c)
 
 module _ (n : ℕ) (l : Irreducibles) {ranks variables : List ℕ} (are : RanksOf n (listed n l) (l .count) ranks) (of-variables : VariableRanks n variables) where
   pub product-rank-is : {i s r : ℕ} → i < n → ProductRank ranks (l .count) (getD variables i 0) s r → s < l .count → r ≡ rankOf n (product n (variable n i) (listedAt n l s))

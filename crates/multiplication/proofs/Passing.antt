@@ -1,5 +1,5 @@
--- The loop of `variable_through`.
---   passes-iff      the place of w less x says whether that is a rank of the list
+-- The test of `is_detour`, and the loop of `variable_through`.
+--   detour-iff      the place of w less x says whether that is a rank of the list
 --   Blocked         none of the variables before x_j passes
 --   blocked-none, blocked-more, blocked-all
 use mathlib.Core.Path.{_≡_}
@@ -12,12 +12,12 @@ use native.Mathlib.Omega.{arith}
 use borrow.Author.Count.{below-more}
 use borrow.Author.Tests.{eqb-true, eq-eqb}
 use lib.Dec.{eqb}
-use Rattle.multiplication.specs.Ranks.{FirstRank}
+use Rattle.lists.proofs.Testing.{false-not-true}
+use Rattle.monomial.specs.Ranks.{FirstRank}
 use Rattle.multiplication.specs.Rules.{PassesBy}
-use Rattle.multiplication.proofs.Testing.{false-not-true}
 
-pub passes-iff : {ranks : List ℕ} {count e w x r : ℕ} → ¬ (e ≡ 0) → FirstRank ranks count (w - x) r → (eqb r count ≡ true) ↔ PassesBy ranks count e w x
-passes-iff {count = count} {r = r} h place = (
+pub detour-iff : {ranks : List ℕ} {count e w x r : ℕ} → ¬ (e ≡ 0) → FirstRank ranks count (w - x) r → (eqb r count ≡ true) ↔ PassesBy ranks count e w x
+detour-iff {count = count} {r = r} h place = (
   λ u. record { divisor = omega arith; outside = λ k v. place .first k (omega (arith, eqb-true r count u)) },
   λ a. eq-eqb r count (by-cases (decLt r count) (λ u. absurd (a .outside r u (place .found u))) (λ u. omega (arith, place .within))),
 )

@@ -1,11 +1,11 @@
--- The ranks of products with a variable and of quotients by one, and the test of `passes` by ranks.
---   product-short     the exponents of x_i·B_s are digits
---   product-greater   its rank is greater than that of B_s
---   product-positive  its rank is not 0
---   divided-by        x_j divides m exactly where its exponent is not 0
+-- The ranks of products with a variable and of quotients by one, and the test of `is_detour` by them.
+--   product-short                   the exponents of x_i·B_s are digits
+--   product-greater                 its rank is greater than that of B_s
+--   product-positive                its rank is not 0
+--   divided-by                      x_j divides m exactly where its exponent is not 0
 --   quotient-short, quotient-rank   the exponents of B_s / x_j are digits, and its rank
---   variable-least    the rank of a divisor x_j is the smaller
---   passes-by         the test of `passes` by ranks
+--   passes-by                       the test of `is_detour`
+--   some-passes                     some variable passes it
 use mathlib.Core.Path.{_≡_, sym, _∙_, ap}
 use mathlib.Core.Bool.{true}
 use mathlib.Core.List.{List}
@@ -14,20 +14,21 @@ use Prim.Native.Nat.{ℕ, _+_, _-_, _≤_, _<_}
 use native.Mathlib.Decide.{ℕ-discrete}
 use native.Mathlib.Omega.{arith}
 use lib.ListN.{getD}
-use Rattle.monomial.specs.Sizes.{most-entry}
-use Rattle.monomial.specs.Rows.{Row, exponent, product, quotient, divides}
+use Rattle.monomial.specs.Represented.{most-entry}
+use Rattle.monomial.specs.Rows.{Row, exponent, product}
+use Rattle.monomial.specs.Quotients.{quotient, divides, variable}
+use Rattle.monomial.specs.Ranks.{rankOf, Short}
 use Rattle.monomial.proofs.Products.{exponent-product, exponent-quotient, divides-at, product-quotient}
 use Rattle.monomial.proofs.GrevlexOrder.{grevlex-order}
-use Rattle.groebner.specs.Variables.{variable}
+use Rattle.monomial.proofs.Powers.{exponent-power, exponent-power-other}
+use Rattle.monomial.proofs.Variables.{variable-fits}
+use Rattle.monomial.proofs.RankOrder.{rank-less, rank-injective, rank-product}
 use Rattle.groebner.proofs.Variables.{variable-above}
-use Rattle.groebner.proofs.Powers.{exponent-power, exponent-power-other}
-use Rattle.reduction.specs.declared.irreducible.Irreducibles.{Irreducibles}
-use Rattle.multiplication.specs.Ranks.{rankOf, Short, RanksOf, VariableRanks}
-use Rattle.multiplication.specs.Listed.{listed, listedAt, Passes}
-use Rattle.multiplication.specs.Cursors.{Listing}
-use Rattle.multiplication.specs.Rules.{PassesBy}
-use Rattle.multiplication.proofs.EqualMonomials.{variable-fits}
-use Rattle.multiplication.proofs.RankOrder.{rank-less, rank-injective, rank-product}
+use Rattle.staircase.specs.Listed.{listedAt}
+use Rattle.staircase.specs.declared.irreducible.Irreducibles.{Irreducibles}
+use Rattle.multiplication.specs.Passes.{Detour}
+use Rattle.multiplication.specs.RankedLists.{Listing, RankedList, ProductAt}
+use Rattle.multiplication.specs.Rules.{PassesBy, SomePasses, Through}
 
 pub divided-by : (n : ℕ) (m : Row n) (j : ℕ) → j < n → (divides n (variable n j) m ≡ true) ↔ (0 < exponent n m j)
 divided-by n m j h = (
@@ -67,23 +68,30 @@ module _ {n : ℕ} {l : Irreducibles} (listing : Listing n l) (s : ℕ) (hs : s 
         → rankOf n (product n (variable n i) (quotient n (listedAt n l s) (variable n j))) + rankOf n (variable n j) ≡ rankOf n (product n (variable n i) (listedAt n l s))
     through-rank i d = omega (arith, rank-product n (variable n i) (quotient n (listedAt n l s) (variable n j)), rank-product n (variable n i) (listedAt n l s), quotient-rank d)
 
-  -- By the ranks of the variables, and the rank w of x_i·B_s.
-  module _ {variables : List ℕ} (of-variables : VariableRanks n variables) {i w : ℕ} (hi : i < n) (is : w ≡ rankOf n (product n (variable n i) (listedAt n l s))) (j : ℕ) (hj : j < n) where
-    pub variable-least : 0 < exponent n (listedAt n l s) j → getD variables j 0 ≤ w
-    variable-least p = omega (arith, of-variables .rank j hj, through-rank j i (divided-by n (listedAt n l s) j hj .1 p))
+-- By the ranks of the list and of the variables, and the rank w of x_i·B_s.
+module _ {n : ℕ} {l : Irreducibles} {ranks variables : List ℕ} (ranked : RankedList n l ranks variables) {i s w : ℕ} (of : ProductAt n l i s w) where
+  module _ (j : ℕ) (hj : j < n) where
+    of-through : divides n (variable n j) (listedAt n l s) ≡ true → rankOf n (product n (variable n i) (quotient n (listedAt n l s) (variable n j))) + getD variables j 0 ≡ w
+    of-through d = omega (arith, of .rank, ranked .variables .rank j hj, through-rank (ranked .listing) s (of .inside) j i d)
+
+    variable-least : 0 < exponent n (listedAt n l s) j → getD variables j 0 ≤ w
+    variable-least p = omega (arith, of-through (divided-by n (listedAt n l s) j hj .1 p))
 
     difference : divides n (variable n j) (listedAt n l s) ≡ true → rankOf n (product n (variable n i) (quotient n (listedAt n l s) (variable n j))) ≡ w - getD variables j 0
-    difference d = omega (arith, of-variables .rank j hj, through-rank j i d)
+    difference d = omega (arith, of-through d)
 
-    pub passes-by : {ranks : List ℕ} → RanksOf n (listed n l) (l .count) ranks
-        → PassesBy ranks (l .count) (exponent n (listedAt n l s) j) w (getD variables j 0) ↔ Passes n l (listedAt n l s) i j
-    passes-by are = (
+    pub passes-by : PassesBy ranks (l .count) (exponent n (listedAt n l s) j) w (getD variables j 0) ↔ Detour n l (listedAt n l s) i j
+    passes-by = let are = ranked .ranks in (
       λ p. let d = divided-by n (listedAt n l s) j hj .1 (p .divisor) in record {
         divisor = d;
         outside = λ k u e. p .outside k u (are .rank k u ∙ ap (rankOf n) e ∙ difference d);
       },
       λ p. record {
         divisor = divided-by n (listedAt n l s) j hj .0 (p .divisor);
-        outside = λ k u e. p .outside k u (rank-injective n _ _ (are .short k u) (through-short j i hi) (sym (are .rank k u) ∙ e ∙ sym (difference (p .divisor))));
+        outside = λ k u e. p .outside k u (rank-injective n _ _ (are .short k u) (through-short (ranked .listing) s (of .inside) j i (of .within))
+            (sym (are .rank k u) ∙ e ∙ sym (difference (p .divisor))));
       },
     )
+
+  pub some-passes : Through n l i s → SomePasses n (listedAt n l s) ranks variables (l .count) w
+  some-passes through = let (j, hj, p) = through .some in record { least = variable-least; some = (j, hj, passes-by j hj .1 p) }

@@ -1,42 +1,46 @@
--- The loop of `apply`: sums over the rows of one variable modulo p, one row a turn.
+-- The loop of `times_variable`: sums over the rows of one variable modulo p, one row a turn.
 --   Summed p t i w a r   the coordinates a are Σ w(s)·row(i, s) over s < r
 --   summed-start         before the first turn
 --   summed-row           a turn adds row r
 --   summed-none          a turn leaves out a row with the coefficient 0
 --   summed-whole         after the last turn, cut at the number of the rows
---   row-below            a row of the tables is below p
+--   table-row-below      a row of the tables is below p
 --   multiply-row         a product with a row of the tables
 use mathlib.Core.Path.{_≡_, refl, sym, _∙_, ap, ap₂, subst}
+use mathlib.Core.List.{List}
 use mathlib.Core.Logic.{by-cases}
 use Prim.Native.Nat.{ℕ, _+_, _*_, _%_, _<_, _≤_}
 use native.Mathlib.Nat.{zero-mod}
 use native.Mathlib.Decide.{decLt}
 use native.Mathlib.Omega.{arith}
-use lib.ListN.{getD}
-use Rattle.residue.specs.Field.{modulo}
+use Rattle.residue.specs.Field.{modulo, residue}
 use Rattle.residue.proofs.ResidueField.{residue-ring}
+use Rattle.residue.proofs.Residues.{residue-mod}
+use Rattle.monomial.specs.Sizes.{most-variables}
+use Rattle.groebner.specs.MultiplicationRows.{timesVariable}
 use Rattle.groebner.proofs.DotProducts.{dot-on}
-use Rattle.groebner.specs.MultiplicationRows.{multiply}
-use Rattle.tabtext.specs.Sizes.{most-standard}
-use Rattle.reduction.specs.Generators.{residue}
-use Rattle.multiplication.specs.Rows.{coordinate, rowStart, cellAt, Below, AllBelow, AddedMultiple, Cut, RowOf, coordinatesOf, cellOf, Multiplied, Tables}
-use Rattle.multiplication.specs.declared.coordinates.Coordinates.{Coordinates}
-use Rattle.multiplication.proofs.NaturalSums.{total, total-more, total-none, residue-total, residue-mod}
+use Rattle.lines.specs.Sizes.{most-standard}
+use Rattle.coordinates.specs.Vectors.{coordinate, Below, Cut, coordinatesOf}
+use Rattle.coordinates.specs.Rows.{AddedMultiple}
+use Rattle.coordinates.specs.declared.Coordinates.{Coordinates}
+use Rattle.coordinates.proofs.RowArrays.{row-coordinate, row-below}
+use Rattle.multiplication.specs.Rows.{rowStart, tableRow, tablesOf, cellAt, Cells, cellOf, Multiplied, Tables}
+use Rattle.multiplication.proofs.NaturalSums.{dotProduct, total-more, total-none, residue-total}
 
 pub record Summed (p : ℕ) (t : Tables) (i : ℕ) (w a : Coordinates) (r : ℕ) : Type 0 where
   pub below : Below p a
-  pub sums : (k : ℕ) → k < most-standard → coordinate a k ≡ total r (coordinate w) (λ s. cellAt t i s k) % p
+  pub sums : (k : ℕ) → k < most-standard → coordinate a k ≡ dotProduct r (coordinate w) (λ s. cellAt t i s k) % p
 
 module _ {p : ℕ} {t : Tables} {i : ℕ} {w a : Coordinates} where
   pub summed-start : 0 < p → ((k : ℕ) → coordinate a k ≡ 0) → Summed p t i w a 0
-  unfolding total
+  unfolding dotProduct
   summed-start o z = record { below = record { below = λ k. omega (arith, z k) }; sums = λ k h. z k ∙ sym (zero-mod p) }
 
   module _ {r : ℕ} (summed : Summed p t i w a r) where
-    pub summed-row : {b : Coordinates} {at : ℕ} → at ≡ rowStart i r → AddedMultiple p a (coordinate w r) (t .cells) at b → Summed p t i w b (r + 1)
-    summed-row e q = record {
+    pub summed-row : {b : Coordinates} → AddedMultiple p a (coordinate w r) (tableRow t i r) b → Summed p t i w b (r + 1)
+    summed-row q = record {
       below = q .below;
-      sums = λ k h. q .sums k h ∙ ap₂ (λ x j. (x + coordinate w r * getD (t .cells) (j + k) 0) % p) (summed .sums k h) e ∙ total-more p r (coordinate w) (λ s. cellAt t i s k);
+      sums = λ k h. q .sums k h ∙ ap₂ (λ x y. (x + coordinate w r * y) % p) (summed .sums k h) (row-coordinate (t .cells) (rowStart i r) k h) ∙ total-more p r (coordinate w) (λ s. cellAt t i s k);
     }
 
     pub summed-none : coordinate w r ≡ 0 → Summed p t i w a (r + 1)
@@ -53,11 +57,10 @@ module _ {p : ℕ} {t : Tables} {i : ℕ} {w a : Coordinates} where
       coordinates = λ h k l. ap (residue p h) (q .front k l ∙ summed .sums k (omega arith)) ∙ residue-mod p h _ ∙ residue-total p h r _ _;
     }
 
-module _ {t : Tables} {i s : ℕ} {w : Coordinates} (row : RowOf t i s w) where
-  pub row-below : {p : ℕ} → 0 < p → AllBelow p t → Below p w
-  row-below o b = record { below = λ k. by-cases (decLt k most-standard) (λ h. rw (row .front k h) (b .cell _)) (λ h. omega (arith, row .zeros k (omega arith))) }
+pub table-row-below : {p : ℕ} {l : List ℕ} → Cells p l → (i s : ℕ) → i < most-variables → s < most-standard → Below p (tableRow (tablesOf l) i s)
+table-row-below {p} {l} cells i s hi hs = row-below l (rowStart i s) (omega (arith, cells .size)) p (omega (arith, cells .below .cell 0)) (cells .below .cell)
 
-  pub multiply-row : (p : ℕ) (h : 1 < p) (d : ℕ) → d ≤ most-standard → (j k : ℕ)
-      → multiply (modulo p h) d (cellOf p h t) j (coordinatesOf p h w) k ≡ multiply (modulo p h) d (cellOf p h t) j (cellOf p h t i s) k
-  unfolding coordinatesOf cellOf
-  multiply-row p h d u j k = dot-on (residue-ring p h) d _ _ _ _ (λ r v. ap (residue p h) (row .front r (omega arith))) (λ r v. refl)
+pub multiply-row : (t : Tables) (i s p : ℕ) (h : 1 < p) (d : ℕ) → d ≤ most-standard → (j k : ℕ)
+    → timesVariable (modulo p h) d (cellOf p h t) j (coordinatesOf p h (tableRow t i s)) k ≡ timesVariable (modulo p h) d (cellOf p h t) j (cellOf p h t i s) k
+unfolding coordinatesOf cellOf
+multiply-row t i s p h d u j k = dot-on (residue-ring p h) d _ _ _ _ (λ r v. ap (residue p h) (row-coordinate (t .cells) (rowStart i s) r (omega arith))) (λ r v. refl)

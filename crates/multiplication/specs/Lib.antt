@@ -1,17 +1,16 @@
--- The definitions of the crate `multiplication`:
---   Rows         coordinates in the irreducible monomials, and the rows of the products x_i·B_s
---   Listed       the list of the irreducible monomials, as the code holds it
---   Least        the place with the least value
---   Ranks        ranks of monomials
---   Rules        the three rules for the row of x_i·B_s
---   Cursors      the next products of the variables
---   Sorted       a list of monomials in rising grevlex order
---   Acceptance   whether the lines are a Groebner basis, and the rows
+-- The definitions of the crate `multiplication`.
+-- Inner contracts:
+--   Rows          the rows of the products x_i·B_s, and what they make of coordinates
+--   Tails         the row of minus the tail of a line
+--   Passes        variables over which a product stays out of the list
+--   Rules         the row that the code makes for x_i·B_s
+--   RankedLists   the list of the irreducible monomials with its ranks, and the ranks of the products
+--   Filling       what filling the rows asks, and what it gives
+--   Criterion     whether the lines are a Groebner basis, and the rows
 pub mod Rows
-pub mod Listed
-pub mod Least
-pub mod Ranks
+pub mod Tails
+pub mod Passes
 pub mod Rules
-pub mod Cursors
-pub mod Sorted
-pub mod Acceptance
+pub mod RankedLists
+pub mod Filling
+pub mod Criterion

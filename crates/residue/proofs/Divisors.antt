@@ -1,8 +1,8 @@
 -- A number above 1 is prime if no number above 1 whose square is at most it divides it.
---   SmallDivisor p d     d is above 1, its square is at most p, and it divides p
---   small-divisor        a number with a divisor d between 1 and itself has a small divisor
---   no-small-divisor     a number above 1 without a small divisor is prime
---   less-by-square       a number above 1 whose square is at most p is less than p
+--   SmallDivisor p d   d is above 1, its square is at most p, and it divides p
+--   small-divisor      a number with a divisor d between 1 and itself has a small divisor
+--   no-small-divisor   a number above 1 without a small divisor is prime
+--   less-by-square     a number above 1 whose square is at most p is less than p
 use mathlib.Core.Path.{_≡_}
 use Prim.Native.Nat.{ℕ, _*_, _/_, _%_, _≤_, _<_}
 use native.Mathlib.Nat.{mul-le-mul-left, mul-le-mul-right, mul-mod-left, mul-mod-right, dvd-of-mod-eq-zero, div-mul-cancel}

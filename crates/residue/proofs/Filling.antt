@@ -1,10 +1,10 @@
 -- The loop of `Reciprocals::new`: the table is filled from the front, two entries a turn, one for each number of a pair.
 --   Has t k             the table t has an entry for k: one that is not zero
 --   Right p t           each entry is a reciprocal modulo p
---   Filled p t a        so it is, with each number its reciprocal has an entry, and the numbers from 1 to a - 1 have entries
---   filled-start        it holds at a = 1 for a table of zeros
+--   TableFilled p t a   so it is, with each number its reciprocal has an entry, and the numbers from 1 to a - 1 have entries
+--   reciprocals-none    it holds at a = 1 for a table of zeros
 --   filled-none-below   a number without an entry has no reciprocal below it
---   filled-turn         it holds at a + 1 once the reciprocals of a and of its reciprocal are stored
+--   reciprocals-more    it holds at a + 1 once the reciprocals of a and of its reciprocal are stored
 --   filled-over         it holds at a + 1 if a has an entry
 --   filled-stop         if a is p, the table serves for p
 use mathlib.Core.Path.{_≡_, sym, _∙_, subst}
@@ -17,9 +17,9 @@ use native.Mathlib.Omega.{arith}
 use lib.ListN.{length, getD, set, replicate, length-set, length-replicate, getD-replicate, List·getD-eq-default}
 use lib.Seq.{getD-set-same, getD-set-other}
 use Rattle.residue.specs.Prime.{Modulus, largest-modulus}
-use Rattle.residue.specs.Modular.{product}
+use Rattle.residue.specs.Modular.{productMod}
 use Rattle.residue.specs.Reciprocals.{Serves}
-use Rattle.residue.proofs.ModularLaws.{product-comm}
+use Rattle.residue.proofs.ModularLaws.{productMod-comm}
 use Rattle.residue.proofs.Inverses.{Reciprocal, reciprocal-unique}
 use Rattle.residue.proofs.Counting.{reciprocal-positive}
 
@@ -31,7 +31,7 @@ Has t k = getD t k 0 ≢ 0
 abbrev Right : ℕ → List ℕ → Type 0
 Right p t = (k : ℕ) → Has t k → Reciprocal p k (getD t k 0)
 
-pub record Filled (p : ℕ) (t : List ℕ) (a : ℕ) : Type 0 where
+pub record TableFilled (p : ℕ) (t : List ℕ) (a : ℕ) : Type 0 where
   pub modulus : Modulus p
   pub space : length t ≡ largest-modulus
   pub above-zero : 0 < a
@@ -44,8 +44,8 @@ pub record Filled (p : ℕ) (t : List ℕ) (a : ℕ) : Type 0 where
 zeros-at : (n k a : ℕ) → getD (replicate n a) k a ≡ a
 zeros-at n k a = by-cases (decLt k n) (λ h. getD-replicate n k a a h) (λ h. List·getD-eq-default (replicate n a) a (omega (arith, length-replicate n a)))
 
-pub filled-start : (p : ℕ) → Modulus p → Filled p (replicate largest-modulus 0) 1
-filled-start p m = record {
+pub reciprocals-none : (p : ℕ) → Modulus p → TableFilled p (replicate largest-modulus 0) 1
+reciprocals-none p m = record {
   modulus = m;
   space = length-replicate {A = ℕ} largest-modulus 0;
   above-zero = omega arith;
@@ -57,9 +57,9 @@ filled-start p m = record {
 
 -- The pair the other way round.
 reciprocal-swap : {p a b : ℕ} → a < p → Reciprocal p a b → Reciprocal p b a
-reciprocal-swap {p} {a} {b} h s = record { below = h; inverse = product-comm p b a ∙ s .inverse }
+reciprocal-swap {p} {a} {b} h s = record { below = h; inverse = productMod-comm p b a ∙ s .inverse }
 
-pub filled-none-below : (p : ℕ) (t : List ℕ) (a : ℕ) → Filled p t a → a < p → getD t a 0 ≡ 0 → (b : ℕ) → b < a → ¬ (product p a b ≡ 1)
+pub filled-none-below : (p : ℕ) (t : List ℕ) (a : ℕ) → TableFilled p t a → a < p → getD t a 0 ≡ 0 → (b : ℕ) → b < a → ¬ (productMod p a b ≡ 1)
 filled-none-below p t a f h e b l q =
     let s : Reciprocal p a b = record { below = omega arith; inverse = q } in
     let n = f .before b (reciprocal-positive p a b s) l in
@@ -79,8 +79,8 @@ module _ (p : ℕ) (t : List ℕ) (i v : ℕ) (l : i < length t) (s : Reciprocal
       (λ e. rw (e, getD-set-same t i v 0 l) s)
       (λ n. subst (Reciprocal p k) (sym (getD-set-other t i k v 0 n)) (r k (subst (_≢ 0) (getD-set-other t i k v 0 n) h)))
 
-pub filled-turn : (p : ℕ) (t : List ℕ) (a b : ℕ) → Filled p t a → a < p → Reciprocal p a b → Filled p (set (set t a b) b a) (a + 1)
-filled-turn p t a b f h s = record {
+pub reciprocals-more : (p : ℕ) (t : List ℕ) (a b : ℕ) → TableFilled p t a → a < p → Reciprocal p a b → TableFilled p (set (set t a b) b a) (a + 1)
+reciprocals-more p t a b f h s = record {
   modulus = f .modulus;
   space = size ∙ f .space;
   above-zero = omega arith;
@@ -126,7 +126,7 @@ filled-turn p t a b f h s = record {
         (λ u. by-cases (ℕ-discrete k a) (λ e. pair k b n (subst (λ j. Reciprocal p j b) (sym e) s) has-b)
         (λ v. let m : Has t k = subst (_≢ 0) (getD-set-other t′ b k a 0 u ∙ getD-set-other t a k b 0 v) n in pair k _ n (f .right k m) (keeps _ (f .pairs k m))))
 
-pub filled-over : (p : ℕ) (t : List ℕ) (a : ℕ) → Filled p t a → a < p → getD t a 0 ≢ 0 → Filled p t (a + 1)
+pub filled-over : (p : ℕ) (t : List ℕ) (a : ℕ) → TableFilled p t a → a < p → getD t a 0 ≢ 0 → TableFilled p t (a + 1)
 filled-over p t a f h n = record {
   modulus = f .modulus;
   space = f .space;
@@ -137,7 +137,7 @@ filled-over p t a f h n = record {
   before = λ k l m. ⊎-elim (λ e. subst (Has t) (sym e) n) (λ u. f .before k l u) (eq-or-lt-of-le (omega arith));
 }
 
-pub filled-stop : (p : ℕ) (t : List ℕ) (a : ℕ) → Filled p t a → p ≤ a → Serves (record { p = p; table = t })
+pub filled-stop : (p : ℕ) (t : List ℕ) (a : ℕ) → TableFilled p t a → p ≤ a → Serves (record { p = p; table = t })
 filled-stop p t a f h = record {
   size = f .modulus .size;
   residue = λ k l m. f .right k (f .before k l (omega arith)) .below;

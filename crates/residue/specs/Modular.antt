@@ -1,19 +1,17 @@
--- Arithmetic modulo p, on the numbers below p (document 01, "Words and orders").
---   sum p a b, difference p a b, negation p a, product p a b
+-- Believed. Arithmetic modulo p, on the numbers below p (document 01, "Words and orders").
+--   sumMod p a b          a + b
+--   negationMod p a       - a
+--   productMod p a b      a · b
 use Prim.Native.Nat.{ℕ, _+_, _-_, _*_, _%_}
 
 -- a + b
-unfoldable pub sum : ℕ → ℕ → ℕ → ℕ
-sum p a b = (a + b) % p
-
--- a - b, for b at most p
-unfoldable pub difference : ℕ → ℕ → ℕ → ℕ
-difference p a b = (a + (p - b)) % p
+unfoldable pub sumMod : ℕ → ℕ → ℕ → ℕ
+sumMod p a b = (a + b) % p
 
 -- - a, for a at most p
-unfoldable pub negation : ℕ → ℕ → ℕ
-negation p a = (p - a) % p
+unfoldable pub negationMod : ℕ → ℕ → ℕ
+negationMod p a = (p - a) % p
 
 -- a · b
-unfoldable pub product : ℕ → ℕ → ℕ → ℕ
-product p a b = a * b % p
+unfoldable pub productMod : ℕ → ℕ → ℕ → ℕ
+productMod p a b = a * b % p

@@ -1,7 +1,7 @@
--- Primes, and the moduli of the format (document 01, refusal 4).
---   Prime p            p is prime
---   largest-modulus    251
---   Modulus p          p is a prime from 2 to 251
+-- Believed. Primes, and the moduli of the format (document 01, refusal 4).
+--   Prime p           p is prime
+--   largest-modulus   251
+--   Modulus p         p is a prime from 2 to 251
 use mathlib.Core.Path.{_≡_}
 use Prim.Native.Nat.{ℕ, _%_, _<_, _≤_}
 

@@ -1,11 +1,11 @@
--- What a table of reciprocals serves for (document 01, "Words and orders").
+-- Inner contracts. What a table of reciprocals serves for (document 01, "Words and orders").
 --   entry t a   what the table t has for a
 --   Serves t    the table t has the reciprocals modulo its p
 use mathlib.Core.Path.{_≡_}
 use Prim.Native.Nat.{ℕ, _<_, _≤_}
 use lib.ListN.{getD}
 use Rattle.residue.specs.Prime.{largest-modulus}
-use Rattle.residue.specs.Modular.{product}
+use Rattle.residue.specs.Modular.{productMod}
 use Rattle.residue.specs.declared.reciprocals.Reciprocals.{Reciprocals}
 
 -- What the table has for a.
@@ -16,4 +16,4 @@ entry t a = getD (t .table) a 0
 pub record Serves (t : Reciprocals) : Type 0 where
   pub size : t .p ≤ largest-modulus
   pub residue : (a : ℕ) → 0 < a → a < t .p → entry t a < t .p
-  pub inverse : (a : ℕ) → 0 < a → a < t .p → product (t .p) a (entry t a) ≡ 1
+  pub inverse : (a : ℕ) → 0 < a → a < t .p → productMod (t .p) a (entry t a) ≡ 1

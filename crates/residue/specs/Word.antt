@@ -1,4 +1,4 @@
--- Numbers of 16 bits.
+-- Inner contracts. Numbers of 16 bits.
 --   word   one more than the largest
 use Prim.Native.Nat.{ℕ}
 

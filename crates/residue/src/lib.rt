@@ -8,7 +8,8 @@ ghost use mathlib.Core.Path.{_≡_};
 ghost use Prim.Native.Nat.{_<_, _≤_, _%_};
 ghost use lib.Dec.{eqb};
 ghost use Rattle.residue.specs.Prime.{«largest-modulus»};
-ghost use Rattle.residue.specs.Modular.{sum, difference, negation, product};
+ghost use Rattle.residue.specs.Modular.{sumMod, negationMod, productMod};
+ghost use Rattle.residue.specs.Differences.{differenceMod};
 
 pub mod prime;
 pub mod reciprocals;
@@ -35,28 +36,28 @@ impl Residue {
         self.0 == 0
     }
 
-    pub fn add(self, b: Residue, p: u16) -> Residue
-        requires { ⌜ (self .0 < p) × (b .0 < p) × (p ≤ largest-modulus) ⌝ }
-        ensures { λ r. ⌜ (r .0 ≡ sum p (self .0) (b .0)) × (r .0 < p) ⌝ }
+    pub fn add(self, other: Residue, p: u16) -> Residue
+        requires { ⌜ (self .0 < p) × (other .0 < p) × (p ≤ largest-modulus) ⌝ }
+        ensures { λ r. ⌜ (r .0 ≡ sumMod p (self .0) (other .0)) × (r .0 < p) ⌝ }
     {
-        let s = self.0 + b.0;
+        let s = self.0 + other.0;
         if s < p { Residue(s) } else { Residue(s - p) }
     }
 
-    pub fn sub(self, b: Residue, p: u16) -> Residue
-        requires { ⌜ (self .0 < p) × (b .0 < p) × (p ≤ largest-modulus) ⌝ }
-        ensures { λ r. ⌜ (r .0 ≡ difference p (self .0) (b .0)) × (r .0 < p) ⌝ }
+    pub fn sub(self, other: Residue, p: u16) -> Residue
+        requires { ⌜ (self .0 < p) × (other .0 < p) × (p ≤ largest-modulus) ⌝ }
+        ensures { λ r. ⌜ (r .0 ≡ differenceMod p (self .0) (other .0)) × (r .0 < p) ⌝ }
     {
-        if b.0 <= self.0 {
-            Residue(self.0 - b.0)
+        if other.0 <= self.0 {
+            Residue(self.0 - other.0)
         } else {
-            Residue(self.0 + (p - b.0))
+            Residue(self.0 + (p - other.0))
         }
     }
 
     pub fn neg(self, p: u16) -> Residue
         requires { ⌜ self .0 < p ⌝ }
-        ensures { λ r. ⌜ (r .0 ≡ negation p (self .0)) × (r .0 < p) ⌝ }
+        ensures { λ r. ⌜ (r .0 ≡ negationMod p (self .0)) × (r .0 < p) ⌝ }
     {
         if self.0 == 0 {
             Residue::ZERO
@@ -65,10 +66,10 @@ impl Residue {
         }
     }
 
-    pub fn mul(self, b: Residue, p: u16) -> Residue
-        requires { ⌜ (self .0 < p) × (b .0 < p) × (p ≤ largest-modulus) ⌝ }
-        ensures { λ r. ⌜ (r .0 ≡ product p (self .0) (b .0)) × (r .0 < p) ⌝ }
+    pub fn mul(self, other: Residue, p: u16) -> Residue
+        requires { ⌜ (self .0 < p) × (other .0 < p) × (p ≤ largest-modulus) ⌝ }
+        ensures { λ r. ⌜ (r .0 ≡ productMod p (self .0) (other .0)) × (r .0 < p) ⌝ }
     {
-        Residue(self.0 * b.0 % p)
+        Residue(self.0 * other.0 % p)
     }
 }

@@ -2,7 +2,7 @@
 ghost use mathlib.Core.Path.{_≡_};
 ghost use Prim.Native.Nat.{ℕ, _<_};
 ghost use Rattle.residue.specs.Prime.{Modulus};
-ghost use Rattle.residue.specs.Modular.{product};
+ghost use Rattle.residue.specs.Modular.{productMod};
 ghost use Rattle.residue.specs.Reciprocals.{Serves};
 use crate::Residue;
 use crate::prime::LARGEST_MODULUS;
@@ -14,8 +14,8 @@ pub struct Reciprocals {
 
 // The reciprocal of a, if none is below a: b counts up from a, with a·b beside it, until a·b is 1.
 fn counted(a: Residue, p: u16) -> Residue
-    requires { ⌜ Modulus p × (0 < a .0) × (a .0 < p) × ((b : ℕ) → b < a .0 → ¬ (product p (a .0) b ≡ 1)) ⌝ }
-    ensures { λ r. ⌜ (product p (a .0) (r .0) ≡ 1) × (r .0 < p) ⌝ }
+    requires { ⌜ Modulus p × (0 < a .0) × (a .0 < p) × ((b : ℕ) → b < a .0 → ¬ (productMod p (a .0) b ≡ 1)) ⌝ }
+    ensures { λ r. ⌜ (productMod p (a .0) (r .0) ≡ 1) × (r .0 < p) ⌝ }
 {
     let mut b = a.0;
     let mut multiple = a.mul(a, p);
@@ -47,7 +47,7 @@ impl Reciprocals {
 
     pub fn of(self, a: Residue) -> Residue
         requires { ⌜ Serves self × (0 < a .0) × (a .0 < self .p) ⌝ }
-        ensures { λ r. ⌜ (product (self .p) (a .0) (r .0) ≡ 1) × (r .0 < self .p) ⌝ }
+        ensures { λ r. ⌜ (productMod (self .p) (a .0) (r .0) ≡ 1) × (r .0 < self .p) ⌝ }
     {
         let at = a.0 as usize;
         let b = self.table[at];

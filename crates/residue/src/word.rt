@@ -16,7 +16,7 @@ pub fn word_over(p: u16) -> u16
 }
 
 // x modulo p. With the quotient of the largest u16 by p, the quotient of x is x · over / word, or one more.
-pub fn remainder(x: u16, over: u16, p: u16) -> Residue
+pub fn reduce(x: u16, over: u16, p: u16) -> Residue
     requires { ⌜ (0 < p) × (over ≡ (word - 1) / p) ⌝ }
     ensures { λ r. ⌜ (r .0 ≡ x % p) × (r .0 < p) ⌝ }
 {

@@ -1,14 +1,15 @@
 -- Lines of document 01 and of its edges, in two variables, read by computation.
+--   readings     what is read of texts
 --   good-lines   lines of its example, and the empty stairs line
 --   bad-lines    faults of form
 use Prim.Native.String.{String}
 use mathlib.Core.Path.{_≡_, refl}
 use mathlib.Core.List.{List, [], _∷_, map}
-use Rattle.tabtext.specs.Text.{bytes, Line, header, generator, standard, points, end}
+use Rattle.tabtext.specs.Text.{bytes, TextLine, header, generator, standard, points, end}
 use Rattle.tabtext.specs.Readers.{Got, got, bad, readLine}
 
 -- What is read of a text in two variables.
-pub readings : List String → List (Got Line)
+pub readings : List String → List (Got TextLine)
 readings texts = map (λ t. readLine 2 (bytes t)) texts
 
 pub good-lines : readings

@@ -1,7 +1,8 @@
 -- Numbers in decimal digits.
 --   number-digit     a number below 10 is its digit
 --   number-more      any other is its tenth, and its last digit
---   width-1 .. 5     how many digits a number has
+--   width-1, width-2, width-3, width-4, width-5
+--                    how many digits a number has
 --   width-more       a number above 9 has one digit more than its tenth
 use Prim.Native.Nat.{ℕ, zero, suc, _+_, _/_, _%_, _≤_, _<_}
 use mathlib.Core.Path.{_≡_, ap, _∙_}
@@ -10,7 +11,8 @@ use native.Mathlib.Omega.{arith}
 use native.Mathlib.Decide.{decLt}
 use lib.ListN.{length, length-append}
 use borrow.Author.Tests.{lt-ltb, le-ltb}
-use Rattle.tabtext.specs.Text.{Bytes, digits, number}
+use Rattle.lists.specs.Lists.{Bytes}
+use Rattle.tabtext.specs.Text.{digits, decimal}
 
 -- Any two bounds on the number of digits that are large enough give the same digits.
 digits-bound : (f g v : ℕ) → v < f → v < g → digits f v ≡ digits g v
@@ -24,30 +26,30 @@ digits-bound (suc f) (suc g) v h k = elim (decLt v 10) [
       (ap (λ (s : Bytes). s ++ ((48 + v % 10) ∷ [])) (digits-bound f g (v / 10) (omega arith) (omega arith)))
 ]
 
-pub number-digit : (v : ℕ) → v < 10 → number v ≡ (48 + v) ∷ []
-unfolding number
-number-digit v h = rw (number, digits, lt-ltb v 10 h)
+pub number-digit : (v : ℕ) → v < 10 → decimal v ≡ (48 + v) ∷ []
+unfolding decimal
+number-digit v h = rw (decimal, digits, lt-ltb v 10 h)
 
-pub number-more : (v : ℕ) → 10 ≤ v → number v ≡ number (v / 10) ++ ((48 + v % 10) ∷ [])
-unfolding number
+pub number-more : (v : ℕ) → 10 ≤ v → decimal v ≡ decimal (v / 10) ++ ((48 + v % 10) ∷ [])
+unfolding decimal
 number-more v h =
-    rw (number, digits, le-ltb v 10 h)
+    rw (decimal, digits, le-ltb v 10 h)
     (ap (λ (s : Bytes). s ++ ((48 + v % 10) ∷ [])) (digits-bound v (suc (v / 10)) (v / 10) (omega arith) (omega arith)))
 
-pub width-1 : (v : ℕ) → v < 10 → length (number v) ≡ 1
+pub width-1 : (v : ℕ) → v < 10 → length (decimal v) ≡ 1
 width-1 v h = ap length (number-digit v h)
 
-pub width-more : (v : ℕ) → 10 ≤ v → length (number v) ≡ length (number (v / 10)) + 1
-width-more v h = ap length (number-more v h) ∙ length-append (number (v / 10)) ((48 + v % 10) ∷ [])
+pub width-more : (v : ℕ) → 10 ≤ v → length (decimal v) ≡ length (decimal (v / 10)) + 1
+width-more v h = ap length (number-more v h) ∙ length-append (decimal (v / 10)) ((48 + v % 10) ∷ [])
 
-pub width-2 : (v : ℕ) → 10 ≤ v → v < 100 → length (number v) ≡ 2
+pub width-2 : (v : ℕ) → 10 ≤ v → v < 100 → length (decimal v) ≡ 2
 width-2 v h k = omega (arith, width-more v h, width-1 (v / 10) (omega arith))
 
-pub width-3 : (v : ℕ) → 100 ≤ v → v < 1000 → length (number v) ≡ 3
+pub width-3 : (v : ℕ) → 100 ≤ v → v < 1000 → length (decimal v) ≡ 3
 width-3 v h k = omega (arith, width-more v (omega arith), width-2 (v / 10) (omega arith) (omega arith))
 
-pub width-4 : (v : ℕ) → 1000 ≤ v → v < 10000 → length (number v) ≡ 4
+pub width-4 : (v : ℕ) → 1000 ≤ v → v < 10000 → length (decimal v) ≡ 4
 width-4 v h k = omega (arith, width-more v (omega arith), width-3 (v / 10) (omega arith) (omega arith))
 
-pub width-5 : (v : ℕ) → 10000 ≤ v → v < 100000 → length (number v) ≡ 5
+pub width-5 : (v : ℕ) → 10000 ≤ v → v < 100000 → length (decimal v) ≡ 5
 width-5 v h k = omega (arith, width-more v (omega arith), width-4 (v / 10) (omega arith) (omega arith))

@@ -13,49 +13,40 @@ use mathlib.Core.List.{List, [], _∷_, _++_, map}
 use mathlib.Core.Bool.{true}
 use native.Mathlib.Omega.{arith}
 use lib.ListN.{length}
-use Rattle.tabtext.specs.Text.{Bytes, bytes, Term, Line, header, generator, standard, points, end, number, exponents, term, line, Number, Exponents, Each, Form}
-use Rattle.tabtext.specs.Readers.{got, pure, _>>_, first, startsWith, readByte, readTerm, readTerms, readRows, readLast, readCount, readHeader, readGenerator, readStandard, readPoints, readEnd}
+use Rattle.lists.specs.Lists.{Bytes, Each}
+use Rattle.lines.specs.Terms.{Term}
+use Rattle.tabtext.specs.Text.{bytes, TextLine, header, generator, standard, points, end, decimal, dotted, term, line, Number, Exponents, Form}
+use Rattle.tabtext.specs.Readers.{got, pure, _>>_, first, startsWith, readByte, readTerm, readTerms, readRows, readLast}
+use Rattle.tabtext.specs.Readers.{readHeader, readGenerator, readStandard, readPoints, readEnd}
 use Rattle.tabtext.proofs.Steps.{got-value, got-rest, then-got, then-back, pure-back, after-got, after-back}
 use Rattle.tabtext.proofs.Places.{letter-not, ahead-got, ahead-back, false-true}
 use Rattle.tabtext.proofs.Words.{read-of-byte, byte-of-read, read-of-word, word-of-read, read-of-order, order-of-read}
-use Rattle.tabtext.proofs.Parted.{after}
+use Rattle.tabtext.proofs.Parted.{eachAfter}
 use Rattle.tabtext.proofs.Rows.{no-digit-below, read-of-field, field-of-read, read-of-row, row-of-read, read-of-term, term-of-read}
 use Rattle.tabtext.proofs.Fields.{OfPrint, OfRead, read-of-fields, fields-of-read}
 use Rattle.tabtext.proofs.LineTexts.{header-text, generator-text, standard-text, points-text, end-text}
 
 -- The last field of a line.
-read-of-last : (v : ℕ) (rest : Bytes) → Number v → readLast (9 ∷ (number v ++ (10 ∷ rest))) ≡ got v rest
+read-of-last : (v : ℕ) (rest : Bytes) → Number v → readLast (9 ∷ (decimal v ++ (10 ∷ rest))) ≡ got v rest
 unfolding readLast pure
 read-of-last v rest h = then-got _ _ _ (read-of-field 9 v (10 ∷ rest) h (no-digit-below 10 rest (omega arith))) ∙ after-got _ _ _ (read-of-byte 10 rest)
 
-last-of-read : (s : Bytes) {v : ℕ} {rest : Bytes} → readLast s ≡ got v rest → Number v × (s ≡ 9 ∷ (number v ++ (10 ∷ rest)))
+last-of-read : (s : Bytes) {v : ℕ} {rest : Bytes} → readLast s ≡ got v rest → Number v × (s ≡ 9 ∷ (decimal v ++ (10 ∷ rest)))
 unfolding readLast pure
 last-of-read s e =
     let r = then-back _ _ _ e in
     let l = after-back _ _ _ (r .back) in
     let f = field-of-read 9 s (r .front) in
     let b = byte-of-read 10 (r .between) (l .front) in
-    rw (← (got-value (l .back))) (f .0, f .1 ∙ ap (λ x. 9 ∷ (number (r .value) ++ x)) (b ∙ ap (λ x. 10 ∷ x) (got-rest (l .back))))
-
--- A line of a word and a number.
-read-of-count : (w : Bytes) (v : ℕ) (rest : Bytes) → Number v → readCount w (w ++ (9 ∷ (number v ++ (10 ∷ rest)))) ≡ got v rest
-unfolding readCount
-read-of-count w v rest h = after-got _ _ _ (read-of-word w _) ∙ read-of-last v rest h
-
-count-of-read : (w s : Bytes) {v : ℕ} {rest : Bytes} → readCount w s ≡ got v rest → Number v × (s ≡ w ++ (9 ∷ (number v ++ (10 ∷ rest))))
-unfolding readCount
-count-of-read w s e =
-    let r = after-back _ _ _ e in
-    let l = last-of-read (r .between) (r .back) in
-    (l .0, word-of-read w s (r .front) ∙ ap (λ x. w ++ x) (l .1))
+    rw (← (got-value (l .back))) (f .0, f .1 ∙ ap (λ x. 9 ∷ (decimal (r .value) ++ x)) (b ∙ ap (λ x. 10 ∷ x) (got-rest (l .back))))
 
 pub read-of-points : (v : ℕ) (rest : Bytes) → Number v → readPoints (line (points v) ++ (10 ∷ rest)) ≡ got (points v) rest
 unfolding readPoints pure
-read-of-points v rest h = rw (points-text rest v) (then-got _ _ _ (read-of-count (bytes "runs") v rest h))
+read-of-points v rest h = rw (points-text rest v) (after-got _ _ _ (read-of-word (bytes "runs") _) ∙ then-got _ _ _ (read-of-last v rest h))
 
 pub read-of-end : (v : ℕ) (rest : Bytes) → Number v → readEnd (line (end v) ++ (10 ∷ rest)) ≡ got (end v) rest
 unfolding readEnd pure
-read-of-end v rest h = rw (end-text rest v) (then-got _ _ _ (read-of-count (bytes "end") v rest h))
+read-of-end v rest h = rw (end-text rest v) (after-got _ _ _ (read-of-word (bytes "end") _) ∙ then-got _ _ _ (read-of-last v rest h))
 
 module _ (n : ℕ) where
   -- Terms and rows up to LF.
@@ -71,38 +62,42 @@ module _ (n : ℕ) where
       let b = term-of-read n (r .between) (r .back) in
       ((b .0, b .1), byte-of-read 9 s (r .front) ∙ ap (λ x. 9 ∷ x) (b .2))
 
-  pub read-of-terms : (terms : List Term) (rest : Bytes) → Each OfTerm terms → readTerms n (after 9 (map term terms) ++ (10 ∷ rest)) ≡ got terms rest
+  pub read-of-terms : (terms : List Term) (rest : Bytes) → Each OfTerm terms → readTerms n (eachAfter 9 (map term terms) ++ (10 ∷ rest)) ≡ got terms rest
   unfolding readTerms
   read-of-terms terms rest h = read-of-fields _ term OfTerm print-term terms rest h
 
   pub terms-of-read : (s : Bytes) {terms : List Term} {rest : Bytes} → readTerms n s ≡ got terms rest →
-      Each OfTerm terms × (s ≡ after 9 (map term terms) ++ (10 ∷ rest))
+      Each OfTerm terms × (s ≡ eachAfter 9 (map term terms) ++ (10 ∷ rest))
   unfolding readTerms
   terms-of-read s e = fields-of-read _ term OfTerm read-term s e
 
   pub read-of-rows : (rows : List (List ℕ)) (rest : Bytes) → Each (Exponents n) rows →
-      readRows n (after 9 (map exponents rows) ++ (10 ∷ rest)) ≡ got rows rest
+      readRows n (eachAfter 9 (map dotted rows) ++ (10 ∷ rest)) ≡ got rows rest
   unfolding readRows
-  read-of-rows rows rest h = read-of-fields _ exponents (Exponents n) (read-of-row n 9) rows rest h
+  read-of-rows rows rest h = read-of-fields _ dotted (Exponents n) (read-of-row n 9) rows rest h
 
   pub rows-of-read : (s : Bytes) {rows : List (List ℕ)} {rest : Bytes} → readRows n s ≡ got rows rest →
-      Each (Exponents n) rows × (s ≡ after 9 (map exponents rows) ++ (10 ∷ rest))
+      Each (Exponents n) rows × (s ≡ eachAfter 9 (map dotted rows) ++ (10 ∷ rest))
   unfolding readRows
-  rows-of-read s e = fields-of-read _ exponents (Exponents n) (λ t e rest q. row-of-read n 9 t q) s e
+  rows-of-read s e = fields-of-read _ dotted (Exponents n) (λ t e rest q. row-of-read n 9 t q) s e
 
-  pub points-of-read : (s : Bytes) {l : Line} {rest : Bytes} → readPoints s ≡ got l rest → Form n l × (s ≡ line l ++ (10 ∷ rest))
+  pub points-of-read : (s : Bytes) {l : TextLine} {rest : Bytes} → readPoints s ≡ got l rest → Form n l × (s ≡ line l ++ (10 ∷ rest))
   unfolding readPoints
   points-of-read s {l} {rest} e =
-      let r = pure-back (readCount (bytes "runs")) points s e in
-      let c = count-of-read (bytes "runs") s (r .1) in
-      rw (r .2) (c .0, c .1 ∙ sym (points-text rest (r .0)))
+      let w = after-back _ _ _ e in
+      let r = pure-back readLast points (w .between) (w .back) in
+      let word = word-of-read (bytes "runs") s (w .front) in
+      let last = last-of-read (w .between) (r .1) in
+      rw (r .2) (last .0, word ∙ ap (λ x. bytes "runs" ++ x) (last .1) ∙ sym (points-text rest (r .0)))
 
-  pub end-of-read : (s : Bytes) {l : Line} {rest : Bytes} → readEnd s ≡ got l rest → Form n l × (s ≡ line l ++ (10 ∷ rest))
+  pub end-of-read : (s : Bytes) {l : TextLine} {rest : Bytes} → readEnd s ≡ got l rest → Form n l × (s ≡ line l ++ (10 ∷ rest))
   unfolding readEnd
   end-of-read s {l} {rest} e =
-      let r = pure-back (readCount (bytes "end")) end s e in
-      let c = count-of-read (bytes "end") s (r .1) in
-      rw (r .2) (c .0, c .1 ∙ sym (end-text rest (r .0)))
+      let w = after-back _ _ _ e in
+      let r = pure-back readLast end (w .between) (w .back) in
+      let word = word-of-read (bytes "end") s (w .front) in
+      let last = last-of-read (w .between) (r .1) in
+      rw (r .2) (last .0, word ∙ ap (λ x. bytes "end" ++ x) (last .1) ∙ sym (end-text rest (r .0)))
 
   pub read-of-header : (order : Bytes) (p m : ℕ) (rest : Bytes) → Form n (header order p m) →
       readHeader (line (header order p m) ++ (10 ∷ rest)) ≡ got (header order p m) rest
@@ -114,7 +109,7 @@ module _ (n : ℕ) where
       ∙ then-got _ _ _ (read-of-field 9 p _ (h .3) (no-digit-below 9 _ (omega arith)))
       ∙ then-got _ _ _ (read-of-last m rest (h .4)))
 
-  pub header-of-read : (s : Bytes) {l : Line} {rest : Bytes} → readHeader s ≡ got l rest → Form n l × (s ≡ line l ++ (10 ∷ rest))
+  pub header-of-read : (s : Bytes) {l : TextLine} {rest : Bytes} → readHeader s ≡ got l rest → Form n l × (s ≡ line l ++ (10 ∷ rest))
   unfolding readHeader
   header-of-read s {l} {rest} e =
       let w = after-back _ _ _ e in
@@ -128,13 +123,13 @@ module _ (n : ℕ) where
       rw (r .2) (
         (order .0, order .1, order .2, field .0, last .0),
         word
-            ∙ ap (λ x. bytes "basis\t" ++ x) (order .3 ∙ ap (λ x. o .value ++ x) (field .1 ∙ ap (λ x. 9 ∷ (number (p .value) ++ x)) (last .1)))
+            ∙ ap (λ x. bytes "basis\t" ++ x) (order .3 ∙ ap (λ x. o .value ++ x) (field .1 ∙ ap (λ x. 9 ∷ (decimal (p .value) ++ x)) (last .1)))
             ∙ sym (header-text rest (o .value) (p .value) (r .0)),
       )
 
   pub read-of-generator : (terms : List Term) (rest : Bytes) → Form n (generator terms) →
       readGenerator n (line (generator terms) ++ (10 ∷ rest)) ≡ got (generator terms) rest
-  unfolding readGenerator pure after startsWith
+  unfolding readGenerator pure eachAfter startsWith
   read-of-generator [] rest h = absurd (omega (arith, h .0))
   read-of-generator (t ∷ ts) rest h =
       rw (generator-text rest (t ∷ ts))
@@ -143,12 +138,12 @@ module _ (n : ℕ) where
       ∙ then-got _ _ _ (read-of-terms (t ∷ ts) rest (h .1)))
 
   -- A tab before the fields: there is one.
-  one-field : (terms : List Term) (rest : Bytes) → startsWith 9 (after 9 (map term terms) ++ (10 ∷ rest)) ≡ true → 1 ≤ length terms
-  unfolding after startsWith
+  one-field : (terms : List Term) (rest : Bytes) → startsWith 9 (eachAfter 9 (map term terms) ++ (10 ∷ rest)) ≡ true → 1 ≤ length terms
+  unfolding eachAfter startsWith
   one-field [] rest e = absurd (false-true e)
   one-field (t ∷ ts) rest e = omega arith
 
-  pub generator-of-read : (s : Bytes) {l : Line} {rest : Bytes} → readGenerator n s ≡ got l rest → Form n l × (s ≡ line l ++ (10 ∷ rest))
+  pub generator-of-read : (s : Bytes) {l : TextLine} {rest : Bytes} → readGenerator n s ≡ got l rest → Form n l × (s ≡ line l ++ (10 ∷ rest))
   unfolding readGenerator
   generator-of-read s {l} {rest} e =
       let w = after-back _ _ _ e in
@@ -168,7 +163,7 @@ module _ (n : ℕ) where
       (after-got _ _ _ (read-of-word (bytes "stairs") _)
       ∙ then-got _ _ _ (read-of-rows monomials rest h))
 
-  pub standard-of-read : (s : Bytes) {l : Line} {rest : Bytes} → readStandard n s ≡ got l rest → Form n l × (s ≡ line l ++ (10 ∷ rest))
+  pub standard-of-read : (s : Bytes) {l : TextLine} {rest : Bytes} → readStandard n s ≡ got l rest → Form n l × (s ≡ line l ++ (10 ∷ rest))
   unfolding readStandard
   standard-of-read s {l} {rest} e =
       let w = after-back _ _ _ e in

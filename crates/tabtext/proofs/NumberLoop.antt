@@ -1,7 +1,7 @@
 -- The loop of `read_number`, over plain lists.
 --   bad-first, zero-first    no digit stands at the place, or the digit 0
 --   more-end                 no digit follows
---   Inv                      what holds at the loop's head: what is left to read of the number, and its bounds
+--   DigitsInv                what holds at the loop's head: what is left to read of the number, and its bounds
 --   start, turn              it holds where the loop begins, and again after a digit more
 --   small                    the value has at most 5 digits
 --   stop, full               the number ends where no digit stands, and after its fifth digit
@@ -13,8 +13,10 @@ use native.Mathlib.Numerals.{sub-one}
 use lib.ListN.{length, drop}
 use lib.Seq.{drop-drop}
 use borrow.Author.Tests.{le-leb, lt-leb, ne-eqb}
-use Rattle.tabtext.specs.Text.{Bytes, Number}
+use Rattle.lists.specs.Lists.{Bytes}
+use Rattle.tabtext.specs.Text.{Number}
 use Rattle.tabtext.specs.Readers.{got, bad, digit, moreDigits, readNumber}
+use Rattle.tabtext.specs.Answers.{Reading}
 use Rattle.tabtext.proofs.Places.{digit-within}
 
 pub bad-first : (s : Bytes) (d : ℕ) → d ≡ digit s → 9 < d → readNumber s ≡ bad
@@ -22,12 +24,12 @@ unfolding readNumber
 bad-first s d e h = rw (readNumber, lt-leb _ _ (rw e at h))
 
 pub zero-first : (s : Bytes) (at d : ℕ) → d ≡ digit (drop at s) → d ≡ 0 →
-    (readNumber (drop at s) ≡ got 0 (drop (at + 1) s)) × Number 0 × (at < at + 1) × (at + 1 ≤ length s)
+    Reading readNumber s at 0 (at + 1)
 unfolding readNumber
 zero-first s at d e z =
     let q = sym e ∙ z in
     let within : at < length s = digit-within s at e (omega arith) in
-    (rw (readNumber, q, q, drop-drop 1 at s), omega arith, omega arith, omega arith)
+    record { reads = rw (readNumber, q, q, drop-drop 1 at s); after = omega arith; inside = omega arith }
 
 -- A number of which k digits are to come has at most 5.
 below-cap : (k v : ℕ) → v < 10 ^ (5 - k) → Number v
@@ -51,7 +53,7 @@ unfolding moreDigits
 more-full zero v s h = refl
 more-full (suc k) v s h = absurd (omega arith)
 
-pub record Inv (s : Bytes) (at v i k : ℕ) : Type 0 where
+pub record DigitsInv (s : Bytes) (at v i k : ℕ) : Type 0 where
   pub rest : readNumber (drop at s) ≡ moreDigits k v (drop i s)
   pub below : v < 10 ^ (5 - k)
   pub most : k ≤ 4
@@ -59,7 +61,7 @@ pub record Inv (s : Bytes) (at v i k : ℕ) : Type 0 where
   pub inside : i ≤ length s
 
 module _ (s : Bytes) (at : ℕ) where
-  pub start : (d : ℕ) → d ≡ digit (drop at s) → d ≤ 9 → (d ≡ 0 → ⊥) → Inv s at d (at + 1) 4
+  pub start : (d : ℕ) → d ≡ digit (drop at s) → d ≤ 9 → (d ≡ 0 → ⊥) → DigitsInv s at d (at + 1) 4
   unfolding readNumber
   start d e h z =
       let within : at < length s = digit-within s at e h in
@@ -71,11 +73,11 @@ module _ (s : Bytes) (at : ℕ) where
         inside = omega arith;
       }
 
-  module _ (v i k : ℕ) (inv : Inv s at v i k) where
+  module _ (v i k : ℕ) (inv : DigitsInv s at v i k) where
     pub small : Number v
     small = below-cap k v (inv .below)
 
-    pub turn : (d : ℕ) → 0 < k → d ≡ digit (drop i s) → d ≤ 9 → Inv s at (v * 10 + d) (i + 1) (k - 1)
+    pub turn : (d : ℕ) → 0 < k → d ≡ digit (drop i s) → d ≤ 9 → DigitsInv s at (v * 10 + d) (i + 1) (k - 1)
     turn d p e h =
         let g : digit (drop i s) ≤ 9 = rw e at h in
         let within : i < length s = digit-within s i e h in
@@ -87,12 +89,8 @@ module _ (s : Bytes) (at : ℕ) where
           inside = omega arith;
         }
 
-    -- The value and its bounds.
-    abbrev Value : Type 0
-    Value = (readNumber (drop at s) ≡ got v (drop i s)) × Number v × (at < i) × (i ≤ length s)
+    pub stop : (d : ℕ) → d ≡ digit (drop i s) → 9 < d → Reading readNumber s at v i
+    stop d e h = record { reads = inv .rest ∙ more-end k v (drop i s) (rw e at h); after = inv .after; inside = inv .inside }
 
-    pub stop : (d : ℕ) → d ≡ digit (drop i s) → 9 < d → Value
-    stop d e h = (inv .rest ∙ more-end k v (drop i s) (rw e at h), small, inv .after, inv .inside)
-
-    pub full : k ≤ 0 → Value
-    full h = (inv .rest ∙ more-full k v (drop i s) h, small, inv .after, inv .inside)
+    pub full : k ≤ 0 → Reading readNumber s at v i
+    full h = record { reads = inv .rest ∙ more-full k v (drop i s) h; after = inv .after; inside = inv .inside }

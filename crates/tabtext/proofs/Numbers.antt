@@ -11,7 +11,8 @@ use native.Mathlib.Nat.{lt-of-lt-of-le, pow-le-pow-right, pow-suc}
 use native.Mathlib.Numerals.{sub-one}
 use lib.ListN.{drop}
 use borrow.Author.Tests.{le-leb, ne-eqb, lt-ltb, le-ltb}
-use Rattle.tabtext.specs.Text.{Bytes, digits, number, Number}
+use Rattle.lists.specs.Lists.{Bytes}
+use Rattle.tabtext.specs.Text.{digits, decimal, Number}
 use Rattle.tabtext.specs.Readers.{got, first, digit, moreDigits, readNumber}
 use Rattle.tabtext.proofs.Steps.{got-value, got-rest, got-not-bad}
 use Rattle.tabtext.proofs.Places.{digit-is, digit-above, digit-below}
@@ -59,8 +60,8 @@ read-of-digits (suc f) v rest b p h = elim (decLt v 10) [
       (r .0 - 1, omega arith, rw (digits, le-ltb v 10 (omega arith), append-assoc) (r .2 ∙ more ∙ rw back))
 ]
 
-pub read-of-number : (v : ℕ) (rest : Bytes) → Number v → NoDigit rest → readNumber (number v ++ rest) ≡ got v rest
-unfolding number digits readNumber
+pub read-of-number : (v : ℕ) (rest : Bytes) → Number v → NoDigit rest → readNumber (decimal v ++ rest) ≡ got v rest
+unfolding decimal digits readNumber
 read-of-number zero rest h e = rw (readNumber, digit-cons 0 rest (omega arith), digit-cons 0 rest (omega arith))
 read-of-number (suc v) rest h e =
     let r = read-of-digits 5 (suc v) rest (omega arith) (omega arith) h in
@@ -89,11 +90,11 @@ digits-snoc f v d p h =
 
 -- What was read: a number with its digits.
 abbrev Printed : Bytes → ℕ → Bytes → Type 0
-Printed s w rest = Number w × (s ≡ number w ++ rest)
+Printed s w rest = Number w × (s ≡ decimal w ++ rest)
 
 -- The value v of f digits, and what follows them.
 printed : (f v : ℕ) (s : Bytes) {w : ℕ} {rest : Bytes} → f ≤ 5 → 0 < v → v < 10 ^ f → got v s ≡ got w rest → Printed (digits f v ++ s) w rest
-unfolding number
+unfolding decimal
 printed f v s {w} {rest} b p h e =
     let same : v ≡ w = got-value e in (
       rw same at (lt-of-lt-of-le h (pow-le-pow-right {n = 10} (omega arith) {i = f} {j = 5} b)),
@@ -115,8 +116,8 @@ more-of-read (suc k) f v s {w} {rest} z p h e = elim (decLt (digit s) 10) [
   | no q ↦ printed f v s (omega arith) p h (sym (more-end (suc k) v s (omega arith)) ∙ e)
 ]
 
-pub number-of-read : (s : Bytes) {v : ℕ} {rest : Bytes} → readNumber s ≡ got v rest → Number v × (s ≡ number v ++ rest)
-unfolding readNumber number digits
+pub number-of-read : (s : Bytes) {v : ℕ} {rest : Bytes} → readNumber s ≡ got v rest → Number v × (s ≡ decimal v ++ rest)
+unfolding readNumber decimal digits
 number-of-read s {v} {rest} e = elim (decLt (digit s) 10) [
   | yes q ↦
       elim (decLt 0 (digit s)) [

@@ -1,6 +1,6 @@
 -- The loop of `read_order`, over plain lists.
 --   no-letter      no letter stands at the place
---   Inv            what holds at the loop's head: the letters so far, and what is left to read
+--   LettersInv     what holds at the loop's head: the letters so far, and what is left to read
 --   start, turn    it holds where the loop begins, and again after a letter more
 --   stop, full     the word ends where no letter stands, and after its eighth letter
 use Prim.Native.Nat.{ℕ, zero, suc, _+_, _-_, _≤_, _<_}
@@ -11,8 +11,9 @@ use native.Mathlib.Omega.{arith}
 use native.Mathlib.Numerals.{sub-one}
 use lib.ListN.{length, drop}
 use lib.Seq.{drop-drop}
-use Rattle.tabtext.specs.Text.{Bytes}
+use Rattle.lists.specs.Lists.{Bytes}
 use Rattle.tabtext.specs.Readers.{got, bad, first, letter, moreLetters, readOrder}
+use Rattle.tabtext.specs.Answers.{Reading}
 use Rattle.tabtext.proofs.Places.{letter-within}
 
 pub no-letter : (s : Bytes) → letter s ≡ false → readOrder s ≡ bad
@@ -34,21 +35,21 @@ unfolding moreLetters
 more-full zero w s h = refl
 more-full (suc k) w s h = absurd (omega arith)
 
-pub record Inv (s : Bytes) (at i k : ℕ) : Type 0 where
+pub record LettersInv (s : Bytes) (at i k : ℕ) : Type 0 where
   pub word : Bytes
   pub rest : readOrder (drop at s) ≡ moreLetters k word (drop i s)
-  pub after : at ≤ i
+  pub after : at < i
   pub inside : i ≤ length s
 
 module _ (s : Bytes) (at : ℕ) where
-  pub start : letter (drop at s) ≡ true → Inv s at (at + 1) 7
+  pub start : letter (drop at s) ≡ true → LettersInv s at (at + 1) 7
   unfolding readOrder
   start e =
       let within : at < length s = letter-within s at e in
       record { word = first (drop at s) ∷ []; rest = rw (readOrder, e, drop-drop 1 at s); after = omega arith; inside = omega arith }
 
-  module _ (i k : ℕ) (inv : Inv s at i k) where
-    pub turn : 0 < k → letter (drop i s) ≡ true → Inv s at (i + 1) (k - 1)
+  module _ (i k : ℕ) (inv : LettersInv s at i k) where
+    pub turn : 0 < k → letter (drop i s) ≡ true → LettersInv s at (i + 1) (k - 1)
     turn p e =
         let within : i < length s = letter-within s i e in
         record {
@@ -58,12 +59,12 @@ module _ (s : Bytes) (at : ℕ) where
           inside = omega arith;
         }
 
-    -- The word and its bounds.
-    abbrev Word : Type 0
-    Word = (v : Bytes) × (readOrder (drop at s) ≡ got v (drop i s)) × (at ≤ i) × (i ≤ length s)
+    -- The letters so far are the word.
+    ends : moreLetters k (inv .word) (drop i s) ≡ got (inv .word) (drop i s) → (v : Bytes) × Reading readOrder s at v i
+    ends e = (inv .word, record { reads = inv .rest ∙ e; after = inv .after; inside = inv .inside })
 
-    pub stop : letter (drop i s) ≡ false → Word
-    stop e = (inv .word, inv .rest ∙ more-end k (inv .word) (drop i s) e, inv .after, inv .inside)
+    pub stop : letter (drop i s) ≡ false → (v : Bytes) × Reading readOrder s at v i
+    stop e = ends (more-end k (inv .word) (drop i s) e)
 
-    pub full : k ≤ 0 → Word
-    full h = (inv .word, inv .rest ∙ more-full k (inv .word) (drop i s) h, inv .after, inv .inside)
+    pub full : k ≤ 0 → (v : Bytes) × Reading readOrder s at v i
+    full h = ends (more-full k (inv .word) (drop i s) h)

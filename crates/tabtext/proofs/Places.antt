@@ -9,8 +9,8 @@
 --   letter-is, letter-not       which bytes are letters
 --   letter-first                a letter is a byte from 97 to 122
 --   letter-within               a letter's place is within the text
---   digit-is, digit-above       which bytes are digits
---   digit-below
+--   digit-is, digit-above, digit-below
+--                               which bytes are digits
 --   digit-past, digit-within    no digit stands past the end; a digit's place is within the text
 --   place-after                 the place after what was read
 use Prim.Native.Nat.{ℕ, _+_, _-_, _≤_, _<_}
@@ -23,7 +23,7 @@ use lib.Dec.{leb, eqb}
 use lib.ListN.{length, drop, getD, drop-of-length-le, length-append, length-drop}
 use lib.Seq.{drop-cons, drop-drop}
 use borrow.Author.Tests.{le-leb, lt-leb, leb-true}
-use Rattle.tabtext.specs.Text.{Bytes}
+use Rattle.lists.specs.Lists.{Bytes}
 use Rattle.tabtext.specs.Readers.{got, bad, first, startsWith, readByte, tabAhead, letter, digit}
 use Rattle.tabtext.proofs.Steps.{got-rest, got-not-bad}
 

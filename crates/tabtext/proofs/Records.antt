@@ -1,26 +1,27 @@
 -- What the answer of `read_record` says of the text.
---   FoundLine      a line found at a place: its bytes, its number, its kind, and the place after it
---   record-found   a found record is that of a line of the form
---   record-bad     where the answer is bad no line is read
---   terms-of-line  the terms of a poly line, from the place where its span starts
---   rows-of-line   the rows of a stairs line, likewise
+--   RecordLine      a line found at a place: its bytes, its number, its kind, and the place after it
+--   record-found    a found record is that of a line of the form
+--   record-bad      where the answer is bad no line is read
+--   terms-of-line   the terms of a poly line, from the place where its span starts
 use Prim.Native.Nat.{ℕ, _+_, _-_, _≤_, _<_}
 use mathlib.Core.Path.{_≡_, refl, ap, sym, _∙_}
 use mathlib.Core.List.{List, [], _∷_, _++_, append-assoc}
 use native.Mathlib.Omega.{arith}
 use lib.ListN.{length, drop, length-append, length-drop}
 use lib.Seq.{drop-drop, drop-append-seam}
-use Rattle.tabtext.specs.Text.{Bytes, bytes, Term, Line, generator, standard, line, Form}
-use Rattle.tabtext.specs.Readers.{Got, got, bad, readTerms, readRows, readLine}
+use Rattle.lists.specs.Lists.{Bytes}
+use Rattle.lines.specs.Terms.{Term}
+use Rattle.tabtext.specs.Text.{bytes, TextLine, generator, line, Form}
+use Rattle.tabtext.specs.Readers.{Got, got, bad, readTerms, readLine}
 use Rattle.tabtext.specs.Answers.{kindOf, readOf, readAt}
 use Rattle.tabtext.specs.declared.record.Record.{Record}
 use Rattle.tabtext.specs.declared.record.Read.the-variants.{Found, Bad}
-use Rattle.tabtext.proofs.LineTexts.{generator-text, standard-text}
-use Rattle.tabtext.proofs.LineKinds.{read-of-terms, read-of-rows}
+use Rattle.tabtext.proofs.LineTexts.{generator-text}
+use Rattle.tabtext.proofs.LineKinds.{read-of-terms}
 use Rattle.tabtext.proofs.Lines.{print-of-read}
 
-pub record FoundLine (n k : ℕ) (s : Bytes) (at : ℕ) (r : Record) (i : ℕ) : Type 0 where
-  pub text : Line
+pub record RecordLine (n k : ℕ) (s : Bytes) (at : ℕ) (r : Record) (i : ℕ) : Type 0 where
+  pub text : TextLine
   pub form : Form n text
   pub reads : readLine n (drop at s) ≡ got text (drop i s)
   pub printed : drop at s ≡ line text ++ (10 ∷ drop i s)
@@ -43,10 +44,10 @@ bad-not-found : {r : Record} {i : ℕ} → Bad ≡ Found r i → ⊥
 bad-not-found e = let z : _≡_ {A = ℕ} 0 1 = cc in omega arith
 
 module _ (n k : ℕ) (s : Bytes) (at : ℕ) where
-  pub record-found : (r : Record) (i : ℕ) → at ≤ length s → readAt n k s at ≡ Found r i → FoundLine n k s at r i
+  pub record-found : (r : Record) (i : ℕ) → at ≤ length s → readAt n k s at ≡ Found r i → RecordLine n k s at r i
   record-found r i h e = go (readLine n (drop at s)) refl e
     where
-      go : (g : Got Line) → readLine n (drop at s) ≡ g → readOf k s at g ≡ Found r i → FoundLine n k s at r i
+      go : (g : Got TextLine) → readLine n (drop at s) ≡ g → readOf k s at g ≡ Found r i → RecordLine n k s at r i
       go (got l rest) q f =
           let p = print-of-read n (drop at s) q in
           let here : length s - length rest ≡ i = found-place f in
@@ -71,7 +72,7 @@ module _ (n k : ℕ) (s : Bytes) (at : ℕ) where
   pub record-bad : readAt n k s at ≡ Bad → readLine n (drop at s) ≡ bad
   record-bad e = go (readLine n (drop at s)) refl e
     where
-      go : (g : Got Line) → readLine n (drop at s) ≡ g → readOf k s at g ≡ Bad → readLine n (drop at s) ≡ bad
+      go : (g : Got TextLine) → readLine n (drop at s) ≡ g → readOf k s at g ≡ Bad → readLine n (drop at s) ≡ bad
       go (got l rest) q f = absurd (bad-not-found (sym f))
       go bad q f = q
 
@@ -81,9 +82,3 @@ module _ (n k : ℕ) (s : Bytes) (at : ℕ) where
   terms-of-line {rest} {terms} e =
       let p = print-of-read n (drop at s) e in
       rw (drop-after s (bytes "poly") _ at (p .1 ∙ generator-text rest terms)) (read-of-terms n terms rest (p .0 .1))
-
-  pub rows-of-line : {rest : Bytes} {rows : List (List ℕ)} → readLine n (drop at s) ≡ got (standard rows) rest → readRows n (drop (at + 6) s) ≡ got rows rest
-  unfolding bytes
-  rows-of-line {rest} {rows} e =
-      let p = print-of-read n (drop at s) e in
-      rw (drop-after s (bytes "stairs") _ at (p .1 ∙ standard-text rest rows)) (read-of-rows n rows rest (p .0))

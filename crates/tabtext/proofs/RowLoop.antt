@@ -1,6 +1,6 @@
--- The loop of `read_row`, over plain lists.
+-- The loop of `read_exponents`, over plain lists.
 --   no-separator   the separator does not stand at the place
---   Inv            what holds at the loop's head: the first j exponents, and what is left to read
+--   ExponentsInv   what holds at the loop's head: the first j exponents, and what is left to read
 --   start, turn    it holds where the loop begins, and again after an exponent more
 --   stop           all exponents are read
 --   no-exponent    no exponent stands there
@@ -12,11 +12,10 @@ use native.Mathlib.Nat.{sub-zero}
 use native.Mathlib.Numerals.{add-one, sub-one}
 use lib.ListN.{length, drop, take, set, length-set}
 use lib.Seq.{length-take-le, take-suc-set}
-use Rattle.tabtext.specs.Text.{Bytes}
+use Rattle.lists.specs.Lists.{Bytes}
 use Rattle.tabtext.specs.Readers.{got, bad, pure, readByte, readExponent, moreExponents, readRow}
+use Rattle.tabtext.specs.Answers.{Reading}
 use Rattle.tabtext.proofs.Steps.{then-got, then-bad, after-got, after-bad}
-use Rattle.tabtext.proofs.Places.{place-after}
-use Rattle.tabtext.proofs.Words.{byte-of-read}
 
 pub no-separator : (n sep : ℕ) (s : Bytes) → readByte sep s ≡ bad → readRow n sep s ≡ bad
 unfolding readRow
@@ -38,7 +37,7 @@ unfolding moreExponents pure
 exponents-all zero e s h = refl
 exponents-all (suc k) e s h = absurd (omega arith)
 
-pub record Inv (s : Bytes) (at n sep : ℕ) (row : List ℕ) (i j : ℕ) : Type 0 where
+pub record ExponentsInv (s : Bytes) (at n sep : ℕ) (row : List ℕ) (i j : ℕ) : Type 0 where
   pub rest : readRow n sep (drop at s) ≡ moreExponents (n - j) (take j row) (drop i s)
   pub after : at < i
   pub inside : i ≤ length s
@@ -46,39 +45,36 @@ pub record Inv (s : Bytes) (at n sep : ℕ) (row : List ℕ) (i j : ℕ) : Type 
   pub room : n ≤ length row
 
 module _ (s : Bytes) (at n sep : ℕ) where
-  pub start : (row : List ℕ) {i : ℕ} {v : Unit} → readByte sep (drop at s) ≡ got v (drop i s) → at ≤ i → i ≤ length s → n ≤ length row →
-      Inv s at n sep row i 0
+  pub start : (row : List ℕ) {i : ℕ} {v : Unit} → Reading (readByte sep) s at v i → n ≤ length row → ExponentsInv s at n sep row i 0
   unfolding readRow
-  start row {i} e a b h = record {
-    rest = after-got _ _ _ e ∙ rw sub-zero;
-    after = omega (arith, place-after s (sep ∷ []) at i (omega arith) b (byte-of-read sep (drop at s) e));
-    inside = b;
-    most = omega arith;
-    room = h;
-  }
+  start row r h = record { rest = after-got _ _ _ (r .reads) ∙ rw sub-zero; after = r .after; inside = r .inside; most = omega arith; room = h }
 
-  module _ (row : List ℕ) (i j : ℕ) (inv : Inv s at n sep row i j) where
+  module _ (row : List ℕ) (i j : ℕ) (inv : ExponentsInv s at n sep row i j) where
     -- The row so far has j exponents.
     count : length (take j row) ≡ j
     count = length-take-le j row (omega (arith, inv .most, inv .room))
 
-    pub turn : {v k : ℕ} → j < n → readExponent j (drop i s) ≡ got v (drop k s) → i < k → k ≤ length s → Inv s at n sep (set row j v) k (j + 1)
-    turn {v} {k} h e a b =
+    pub turn : {v k : ℕ} → j < n → Reading (readExponent j) s i v k → ExponentsInv s at n sep (set row j v) k (j + 1)
+    turn {v} {k} h e =
         let less : n - j - 1 ≡ n - (j + 1) = omega arith in
         let within : j < length row = omega (arith, inv .room) in
-        let more : readExponent (length (take j row)) (drop i s) ≡ got v (drop k s) = rw count e in
+        let more : readExponent (length (take j row)) (drop i s) ≡ got v (drop k s) = rw count (e .reads) in
         record {
           rest = inv .rest ∙ exponents-more (n - j) (take j row) (drop i s) (omega arith) more ∙ rw (less, add-one j, take-suc-set);
-          after = omega (arith, inv .after);
-          inside = b;
+          after = omega (arith, inv .after, e .after);
+          inside = e .inside;
           most = omega arith;
           room = rw length-set (inv .room);
         }
 
-    pub stop : n ≤ j → (readRow n sep (drop at s) ≡ got (take n row) (drop i s)) × (at < i) × (i ≤ length s)
+    pub stop : n ≤ j → Reading (readRow n sep) s at (take n row) i
     stop h =
         let all : j ≡ n = omega (arith, inv .most) in
-        (inv .rest ∙ exponents-all (n - j) (take j row) (drop i s) (omega arith) ∙ rw all, inv .after, inv .inside)
+        record {
+          reads = inv .rest ∙ exponents-all (n - j) (take j row) (drop i s) (omega arith) ∙ rw all;
+          after = inv .after;
+          inside = inv .inside;
+        }
 
     pub no-exponent : j < n → readExponent j (drop i s) ≡ bad → readRow n sep (drop at s) ≡ bad
     no-exponent h e = inv .rest ∙ exponents-bad (n - j) (take j row) (drop i s) (omega arith) (rw count e)

@@ -9,13 +9,15 @@ use mathlib.Core.Path.{_≡_, refl, ap, sym, _∙_}
 use mathlib.Core.List.{List, [], _∷_, _++_, append-assoc, append-nil, map}
 use native.Mathlib.Omega.{arith}
 use lib.ListN.{length, length-append}
-use Rattle.tabtext.specs.Text.{Bytes, number, part, exponents, term, Term, Each, Number, Exponents}
+use Rattle.lists.specs.Lists.{Bytes, Each}
+use Rattle.lines.specs.Terms.{Term}
+use Rattle.tabtext.specs.Text.{decimal, part, dotted, term, Number, Exponents}
 use Rattle.tabtext.specs.Readers.{got, pure, first, readField, readExponent, moreExponents, readRow, readTerm}
 use Rattle.tabtext.proofs.Steps.{got-value, got-rest, then-got, then-back, pure-back, after-got, after-back}
 use Rattle.tabtext.proofs.Places.{digit-above, digit-below}
 use Rattle.tabtext.proofs.Words.{read-of-byte, byte-of-read}
 use Rattle.tabtext.proofs.Numbers.{NoDigit, read-of-number, number-of-read}
-use Rattle.tabtext.proofs.Parted.{after, part-after}
+use Rattle.tabtext.proofs.Parted.{eachAfter, part-after}
 
 pub no-digit-below : (b : ℕ) (s : Bytes) → b < 48 → NoDigit (b ∷ s)
 unfolding first
@@ -25,11 +27,11 @@ pub no-digit-above : (b : ℕ) (s : Bytes) → 57 < b → NoDigit (b ∷ s)
 unfolding first
 no-digit-above b s h = omega (arith, digit-above (b ∷ s) b refl h)
 
-pub read-of-field : (sep v : ℕ) (rest : Bytes) → Number v → NoDigit rest → readField sep (sep ∷ (number v ++ rest)) ≡ got v rest
+pub read-of-field : (sep v : ℕ) (rest : Bytes) → Number v → NoDigit rest → readField sep (sep ∷ (decimal v ++ rest)) ≡ got v rest
 unfolding readField
-read-of-field sep v rest h e = after-got _ _ _ (read-of-byte sep (number v ++ rest)) ∙ read-of-number v rest h e
+read-of-field sep v rest h e = after-got _ _ _ (read-of-byte sep (decimal v ++ rest)) ∙ read-of-number v rest h e
 
-pub field-of-read : (sep : ℕ) (s : Bytes) {v : ℕ} {rest : Bytes} → readField sep s ≡ got v rest → Number v × (s ≡ sep ∷ (number v ++ rest))
+pub field-of-read : (sep : ℕ) (s : Bytes) {v : ℕ} {rest : Bytes} → readField sep s ≡ got v rest → Number v × (s ≡ sep ∷ (decimal v ++ rest))
 unfolding readField
 field-of-read sep s e =
     let r = after-back _ _ _ e in
@@ -38,22 +40,22 @@ field-of-read sep s e =
 
 -- An exponent that stands after j others, and exponents that do.
 unfoldable exponentAfter : ℕ → ℕ → Bytes
-exponentAfter zero v = number v
-exponentAfter (suc j) v = 46 ∷ number v
+exponentAfter zero v = decimal v
+exponentAfter (suc j) v = 46 ∷ decimal v
 
 unfoldable exponentsAfter : ℕ → List ℕ → Bytes
 exponentsAfter j [] = []
 exponentsAfter j (v ∷ e) = exponentAfter j v ++ exponentsAfter (suc j) e
 
-later-exponents : (j : ℕ) (e : List ℕ) → exponentsAfter (suc j) e ≡ after 46 (map number e)
-unfolding exponentsAfter exponentAfter after
+later-exponents : (j : ℕ) (e : List ℕ) → exponentsAfter (suc j) e ≡ eachAfter 46 (map decimal e)
+unfolding exponentsAfter exponentAfter eachAfter
 later-exponents j [] = refl
-later-exponents j (v ∷ e) = ap (λ x. 46 ∷ (number v ++ x)) (later-exponents (suc j) e)
+later-exponents j (v ∷ e) = ap (λ x. 46 ∷ (decimal v ++ x)) (later-exponents (suc j) e)
 
-all-exponents : (e : List ℕ) → exponents e ≡ exponentsAfter 0 e
-unfolding exponents part exponentsAfter exponentAfter
+all-exponents : (e : List ℕ) → dotted e ≡ exponentsAfter 0 e
+unfolding dotted part exponentsAfter exponentAfter
 all-exponents [] = refl
-all-exponents (v ∷ e) = part-after 46 (number v) (map number e) ∙ ap (λ x. number v ++ x) (sym (later-exponents 0 e))
+all-exponents (v ∷ e) = part-after 46 (decimal v) (map decimal e) ∙ ap (λ x. decimal v ++ x) (sym (later-exponents 0 e))
 
 no-digit-later : (j : ℕ) (e : List ℕ) (rest : Bytes) → NoDigit rest → NoDigit (exponentsAfter (suc j) e ++ rest)
 unfolding exponentsAfter exponentAfter
@@ -106,13 +108,13 @@ exponents-of-read (suc n) row s {e = _} {rest} e =
       text = f .1 ∙ ap (λ x. exponentAfter (length row) v ++ x) (rw length-snoc at (m .text)) ∙ sym (append-assoc (exponentAfter (length row) v) _ rest);
     }
 
-pub read-of-row : (n sep : ℕ) (e : List ℕ) (rest : Bytes) → Exponents n e → NoDigit rest → readRow n sep (sep ∷ (exponents e ++ rest)) ≡ got e rest
+pub read-of-row : (n sep : ℕ) (e : List ℕ) (rest : Bytes) → Exponents n e → NoDigit rest → readRow n sep (sep ∷ (dotted e ++ rest)) ≡ got e rest
 unfolding readRow
 read-of-row n sep e rest h d =
     let r = read-of-exponents e [] rest (h .1) d in
-    after-got _ _ _ (read-of-byte sep (exponents e ++ rest)) ∙ rw (all-exponents e) (rw (h .0) at r)
+    after-got _ _ _ (read-of-byte sep (dotted e ++ rest)) ∙ rw (all-exponents e) (rw (h .0) at r)
 
-pub row-of-read : (n sep : ℕ) (s : Bytes) {e : List ℕ} {rest : Bytes} → readRow n sep s ≡ got e rest → Exponents n e × (s ≡ sep ∷ (exponents e ++ rest))
+pub row-of-read : (n sep : ℕ) (s : Bytes) {e : List ℕ} {rest : Bytes} → readRow n sep s ≡ got e rest → Exponents n e × (s ≡ sep ∷ (dotted e ++ rest))
 unfolding readRow
 row-of-read n sep s {e} {rest} q =
     let r = after-back _ _ _ q in
@@ -132,4 +134,4 @@ term-of-read n s {t} {rest} e =
     let r = pure-back (readRow n 58) (λ e. (c .value, e)) (c .between) (c .back) in
     let v = number-of-read s (c .front) in
     let m = row-of-read n 58 (c .between) (r .1) in
-    rw (r .2) (v .0, m .0, v .1 ∙ ap (λ x. number (c .value) ++ x) (m .1) ∙ sym (append-assoc (number (c .value)) _ rest))
+    rw (r .2) (v .0, m .0, v .1 ∙ ap (λ x. decimal (c .value) ++ x) (m .1) ∙ sym (append-assoc (decimal (c .value)) _ rest))

@@ -4,14 +4,14 @@
 --   then-got, then-bad      a reader after one that reads, and after one that is bad
 --   Stepped, then-back      what `r >>= next` has read is what next has read after what r has read
 --   pure-back               the same, where next makes a value and reads no more
---   after-got, after-bad    the same for `r >> next`
---   after-back
---   or-got, or-bad          the second reader where the first reads, and where it is bad
+--   after-got, after-bad, after-back
+--                           the same for `r >> next`
+--   or-bad, or-none         the second reader where the first is bad, and the first where the second is bad
 --   or-back                 what `r or other` has read, one of the two has read
 use Prim.Native.Nat.{ℕ}
 use mathlib.Core.Path.{_≡_, refl, ap, sym, _∙_}
 use native.Mathlib.Omega.{arith}
-use Rattle.tabtext.specs.Text.{Bytes}
+use Rattle.lists.specs.Lists.{Bytes}
 use Rattle.tabtext.specs.Readers.{Got, got, bad, Reader, pure, _>>=_, _>>_, _or_}
 
 module _ {A : Type 0} where
@@ -25,13 +25,20 @@ module _ {A : Type 0} where
   got-not-bad e = let z : _≡_ {A = ℕ} 0 1 = cc in omega arith
 
 module _ {A : Type 0} (r other : Reader A) (s : Bytes) where
-  pub or-got : {rest : Bytes} {a : A} → r s ≡ got a rest → _or_ r other s ≡ got a rest
+  or-got : {rest : Bytes} {a : A} → r s ≡ got a rest → _or_ r other s ≡ got a rest
   unfolding _or_
   or-got e = rw (_or_, e)
 
   pub or-bad : r s ≡ bad → _or_ r other s ≡ other s
   unfolding _or_
   or-bad e = rw (_or_, e)
+
+  pub or-none : other s ≡ bad → _or_ r other s ≡ r s
+  or-none e = go (r s) refl
+    where
+      go : (x : Got A) → r s ≡ x → _or_ r other s ≡ r s
+      go (got a rest) q = or-got q ∙ sym q
+      go bad q = or-bad q ∙ e ∙ sym q
 
   pub or-back : {rest : Bytes} {a : A} {C : Type 0} → (r s ≡ got a rest → C) → (other s ≡ got a rest → C) → _or_ r other s ≡ got a rest → C
   or-back {rest} {a} {C} f g e = go (r s) refl

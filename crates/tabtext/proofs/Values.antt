@@ -1,12 +1,13 @@
 -- What stands at each place of the rows and terms that values of the code hold.
---   length-mapped     a mapped list has the length of the list
---   row-length        the row of a monomial in n variables has n exponents
---   row-at            the exponent at a place
---   exponent-stands   the same, as what stands there
---   terms n g         the terms of a generator, and their number
---   term-stands       the term at a place
---   rows n k ms       the rows of the first k monomials, and their number
---   row-stands        the row at a place
+--   exponents-length-of    the row of a monomial in n variables has n exponents
+--   dotted-at              the exponent at a place
+--   exponent-stands        the same, as what stands there
+--   terms n g              the terms of a generator
+--   terms-printed-length   their number
+--   term-stands            the term at a place
+--   exponentLists n k ms   the rows of the first k monomials
+--   rows-printed-length    their number
+--   exponents-stand        the row at a place
 use Prim.Native.Nat.{ℕ, zero, suc, _≤_, _<_, min}
 use mathlib.Core.Path.{_≡_, refl, ap, sym, _∙_}
 use mathlib.Core.List.{List, [], _∷_, map}
@@ -16,24 +17,21 @@ use lib.Seq.{getD-take, length-take-le}
 use Rattle.residue.specs.declared.Residue.{Residue}
 use Rattle.monomial.specs.declared.Exponent.{Exponent}
 use Rattle.monomial.specs.declared.Monomial.{Monomial}
-use Rattle.tabtext.specs.Text.{Term}
-use Rattle.tabtext.specs.Printed.{rowOf, termsOf}
-use Rattle.tabtext.specs.declared.print.Generator.{Generator}
-use Rattle.tabtext.proofs.Separators.{Stands, stands-at}
+use Rattle.lines.specs.Terms.{Term}
+use Rattle.lines.specs.LineTerms.{exponentsOf, termsOf}
+use Rattle.lines.specs.declared.line.Generator.{Generator}
+use Rattle.tabtext.proofs.Separators.{StandsAt, stands-at}
 
-pub length-mapped : (X Y : Type 0) (f : X → Y) (l : List X) (n : ℕ) → length (map f l) ≡ n → length l ≡ n
-length-mapped X Y f l n p = sym (length-map l f) ∙ p
+pub exponents-length-of : (n : ℕ) (m : Monomial) → n ≤ length (m .e) → length (exponentsOf n m) ≡ n
+unfolding exponentsOf
+exponents-length-of n m h = length-take-le n (map (λ (x : Exponent). x .0) (m .e)) (rw (length-map (m .e) (λ (x : Exponent). x .0)) h)
 
-pub row-length : (n : ℕ) (m : Monomial) → n ≤ length (m .e) → length (rowOf n m) ≡ n
-unfolding rowOf
-row-length n m h = length-take-le n (map (λ (x : Exponent). x .0) (m .e)) (rw (length-map (m .e) (λ (x : Exponent). x .0)) h)
+pub dotted-at : (n : ℕ) (m : Monomial) (i : ℕ) → i < n → getD (exponentsOf n m) i 0 ≡ getD (m .e) i (record { 0 = 0 }) .0
+unfolding exponentsOf
+dotted-at n m i h = getD-take n (map (λ (x : Exponent). x .0) (m .e)) i 0 h ∙ List·getD-map (λ (x : Exponent). x .0) (m .e) i (record { 0 = 0 })
 
-pub row-at : (n : ℕ) (m : Monomial) (i : ℕ) → i < n → getD (rowOf n m) i 0 ≡ getD (m .e) i (record { 0 = 0 }) .0
-unfolding rowOf
-row-at n m i h = getD-take n (map (λ (x : Exponent). x .0) (m .e)) i 0 h ∙ List·getD-map (λ (x : Exponent). x .0) (m .e) i (record { 0 = 0 })
-
-pub exponent-stands : (n j : ℕ) (m : Monomial) (x : ℕ) → length (rowOf n m) ≡ n → j < n → x ≡ getD (rowOf n m) j 0 → Stands (rowOf n m) j x
-exponent-stands n j m x k h e = stands-at (rowOf n m) j x 0 e (omega arith)
+pub exponent-stands : (n j : ℕ) (m : Monomial) (x : ℕ) → length (exponentsOf n m) ≡ n → j < n → x ≡ getD (exponentsOf n m) j 0 → StandsAt (exponentsOf n m) j x
+exponent-stands n j m x k h e = stands-at (exponentsOf n m) j x 0 e (omega arith)
 
 -- The terms of a generator.
 abbrev pub terms : ℕ → Generator → List Term
@@ -45,13 +43,13 @@ all-length n [] ms h = refl
 all-length n (c ∷ cs) [] h = absurd (omega arith)
 all-length n (c ∷ cs) (m ∷ ms) h = ap suc (all-length n cs ms (omega arith))
 
-pub terms-length : (n : ℕ) (g : Generator) → g .terms ≤ length (g .coefficients) → length (g .coefficients) ≡ length (g .monomials) →
+pub terms-printed-length : (n : ℕ) (g : Generator) → g .terms ≤ length (g .coefficients) → length (g .coefficients) ≡ length (g .monomials) →
     length (terms n g) ≡ g .terms
-terms-length n g h e =
+terms-printed-length n g h e =
     length-take-le (g .terms) (termsOf n (g .coefficients) (g .monomials)) (rw (all-length n (g .coefficients) (g .monomials) e) h)
 
 all-at : (n j : ℕ) (cs : List Residue) (ms : List Monomial) (c : Residue) (m : Monomial) (d : Term) → j < length (termsOf n cs ms) →
-    getD (termsOf n cs ms) j d ≡ (getD cs j c .0, rowOf n (getD ms j m))
+    getD (termsOf n cs ms) j d ≡ (getD cs j c .0, exponentsOf n (getD ms j m))
 unfolding termsOf
 all-at n j [] ms c m d h = absurd (omega arith)
 all-at n j (x ∷ cs) [] c m d h = absurd (omega arith)
@@ -59,7 +57,7 @@ all-at n zero (x ∷ cs) (y ∷ ms) c m d h = refl
 all-at n (suc j) (x ∷ cs) (y ∷ ms) c m d h = all-at n j cs ms c m d (omega arith)
 
 pub term-stands : (n j : ℕ) (g : Generator) (c : Residue) (m : Monomial) → j < length (terms n g) →
-    Stands (terms n g) j (getD (g .coefficients) j c .0, rowOf n (getD (g .monomials) j m))
+    StandsAt (terms n g) j (getD (g .coefficients) j c .0, exponentsOf n (getD (g .monomials) j m))
 term-stands n j g c m h =
     let d : Term = (0, []) in
     let l : List Term = termsOf n (g .coefficients) (g .monomials) in
@@ -68,13 +66,13 @@ term-stands n j g c m h =
     stands-at (terms n g) j _ d (sym (e ∙ all-at n j (g .coefficients) (g .monomials) c m d (omega arith))) h
 
 -- The rows of the first k monomials.
-abbrev pub rows : ℕ → ℕ → List Monomial → List (List ℕ)
-rows n k ms = map (rowOf n) (take k ms)
+abbrev pub exponentLists : ℕ → ℕ → List Monomial → List (List ℕ)
+exponentLists n k ms = map (exponentsOf n) (take k ms)
 
-pub rows-length : (n k : ℕ) (ms : List Monomial) → k ≤ length ms → length (rows n k ms) ≡ k
-rows-length n k ms h = length-map (take k ms) (rowOf n) ∙ length-take-le k ms h
+pub rows-printed-length : (n k : ℕ) (ms : List Monomial) → k ≤ length ms → length (exponentLists n k ms) ≡ k
+rows-printed-length n k ms h = length-map (take k ms) (exponentsOf n) ∙ length-take-le k ms h
 
-pub row-stands : (n k j : ℕ) (ms : List Monomial) (m : Monomial) → j < k → j < length (rows n k ms) → Stands (rows n k ms) j (rowOf n (getD ms j m))
-row-stands n k j ms m h i =
-    let e : getD (rows n k ms) j (rowOf n m) ≡ rowOf n (getD (take k ms) j m) = List·getD-map (rowOf n) (take k ms) j m in
-    stands-at (rows n k ms) j _ (rowOf n m) (sym (e ∙ ap (rowOf n) (getD-take k ms j m h))) i
+pub exponents-stand : (n k j : ℕ) (ms : List Monomial) (m : Monomial) → j < k → j < length (exponentLists n k ms) → StandsAt (exponentLists n k ms) j (exponentsOf n (getD ms j m))
+exponents-stand n k j ms m h i =
+    let e : getD (exponentLists n k ms) j (exponentsOf n m) ≡ exponentsOf n (getD (take k ms) j m) = List·getD-map (exponentsOf n) (take k ms) j m in
+    stands-at (exponentLists n k ms) j _ (exponentsOf n m) (sym (e ∙ ap (exponentsOf n) (getD-take k ms j m h))) i

@@ -11,7 +11,7 @@ use native.Mathlib.Omega.{arith}
 use lib.Dec.{eqb}
 use lib.ListN.{length, drop}
 use borrow.Author.Tests.{eq-eqb, eqb-true, le-leb}
-use Rattle.tabtext.specs.Text.{Bytes, Each}
+use Rattle.lists.specs.Lists.{Bytes, Each}
 use Rattle.tabtext.specs.Readers.{got, bad, pure, first, startsWith, readByte, readWord, letter, moreLetters, readOrder}
 use Rattle.tabtext.proofs.Steps.{got-value, got-rest, got-not-bad, after-got, after-back}
 use Rattle.tabtext.proofs.Places.{letter-is, letter-first}

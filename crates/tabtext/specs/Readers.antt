@@ -1,4 +1,4 @@
--- Readers: what stands at the front of a list of bytes, and the bytes after it.
+-- Inner contracts. Readers: what stands at the front of a list of bytes, and the bytes after it.
 --   Got A, Reader A     a value and the bytes after it, or bad; a reader of such values
 --   pure, _>>=_, _>>_   a value and no byte; one reader after another
 --   _or_                the second reader where the first is bad
@@ -22,7 +22,6 @@
 --   moreLetters k w     at most k letters more
 --   readOrder           an order word
 --   readLast            the last field of a line, a number, and LF
---   readCount w         a line of a word and a number
 --   tabAhead            a tab stands next
 --   readHeader          a basis line
 --   readGenerator n     a poly line
@@ -35,7 +34,9 @@ use mathlib.Core.List.{List, [], _∷_, _++_}
 use mathlib.Core.Bool.{Bool, true, false}
 use lib.Dec.{leb, eqb}
 use lib.ListN.{drop, length}
-use Rattle.tabtext.specs.Text.{Bytes, bytes, Term, Line, header, generator, standard, points, end}
+use Rattle.lists.specs.Lists.{Bytes}
+use Rattle.lines.specs.Terms.{Term}
+use Rattle.tabtext.specs.Text.{bytes, TextLine, header, generator, standard, points, end}
 
 infixl 20 _>>=_
 infixl 20 _>>_
@@ -168,18 +169,12 @@ readLast = do
   readByte 10
   pure v
 
--- A line of a word and a number.
-unfoldable pub readCount : Bytes → Reader ℕ
-readCount w = do
-  readWord w
-  readLast
-
 -- A tab stands next; it is not read.
 unfoldable pub tabAhead : Reader Unit
 tabAhead s = elim (startsWith 9 s) [ true ↦ got tt s | false ↦ bad ]
 
 -- The five kinds of line, in n variables, with their LF.
-unfoldable pub readHeader : Reader Line
+unfoldable pub readHeader : Reader TextLine
 readHeader = do
   readWord (bytes "basis\t")
   order ← readOrder
@@ -187,30 +182,32 @@ readHeader = do
   n ← readLast
   pure (header order p n)
 
-unfoldable pub readGenerator : ℕ → Reader Line
+unfoldable pub readGenerator : ℕ → Reader TextLine
 readGenerator n = do
   readWord (bytes "poly")
   tabAhead
   terms ← readTerms n
   pure (generator terms)
 
-unfoldable pub readStandard : ℕ → Reader Line
+unfoldable pub readStandard : ℕ → Reader TextLine
 readStandard n = do
   readWord (bytes "stairs")
   monomials ← readRows n
   pure (standard monomials)
 
-unfoldable pub readPoints : Reader Line
+unfoldable pub readPoints : Reader TextLine
 readPoints = do
-  count ← readCount (bytes "runs")
+  readWord (bytes "runs")
+  count ← readLast
   pure (points count)
 
-unfoldable pub readEnd : Reader Line
+unfoldable pub readEnd : Reader TextLine
 readEnd = do
-  count ← readCount (bytes "end")
+  readWord (bytes "end")
+  count ← readLast
   pure (end count)
 
 -- A line in n variables, with its LF. (`unfolding` names all that it computes with.)
-unfoldable pub readLine : ℕ → Reader Line
-unfolding bytes pure _>>=_ _>>_ _or_ first startsWith readByte digit moreDigits readNumber readField readExponent moreExponents readRow readTerm moreFields readFields readTerms readRows readWord letter moreLetters readOrder readLast readCount tabAhead readHeader readGenerator readStandard readPoints readEnd
+unfoldable pub readLine : ℕ → Reader TextLine
+unfolding bytes pure _>>=_ _>>_ _or_ first startsWith readByte digit moreDigits readNumber readField readExponent moreExponents readRow readTerm moreFields readFields readTerms readRows readWord letter moreLetters readOrder readLast tabAhead readHeader readGenerator readStandard readPoints readEnd
 readLine n = readHeader or readGenerator n or readStandard n or readPoints or readEnd

@@ -1,23 +1,7 @@
--- The sizes of a text and of a basis (document 01, refusals 1, 10 and 14).
+-- Believed. The size of a text (document 01, refusal 1).
 --   most-bytes       65,536 bytes of input
---   most-standard    32 standard monomials
---   most-terms       33 terms in a line: a leading one and at most one for each standard monomial
---   most-lines       97 poly lines
-use Prim.Native.Nat.{ℕ, _+_, _*_, _-_}
-use Rattle.monomial.specs.Sizes.{most-variables}
+use Prim.Native.Nat.{ℕ}
 
 -- Document 01, refusal 1.
 abbrev pub most-bytes : ℕ
 most-bytes = 65536
-
--- Document 01, refusal 14.
-abbrev pub most-standard : ℕ
-most-standard = 32
-
--- Document 01, refusal 10.
-abbrev pub most-terms : ℕ
-most-terms = most-standard + 1
-
--- Document 01, refusal 10: 4 × 32 - 31.
-abbrev pub most-lines : ℕ
-most-lines = most-variables * most-standard - (most-standard - 1)

@@ -1,49 +1,44 @@
 // Values of the code, printed as lines at a place of a lent slice.
 //
 // For each kind there are two functions: its width, the number of its bytes, and its printer, which writes the bytes from
-// a place on and returns the place after them. A width has a bound besides where the numbers are 16 bits of a value: each
-// has at most 5 digits.
+// a place on and returns the place after them. A number has at most 5 digits: this bounds the width of a poly line and of
+// a stairs line.
 //
-//   Generator                          a line of a basis
-//   put_bytes                          bytes as they are
-//   row_width, put_row                 the exponents of a monomial
-//   term_width, put_term               a coefficient and a monomial
-//   generator_width, put_generator     a poly line
-//   standard_width, put_standard       a stairs line
-//   header_width, put_header           a basis line
-//   count_width, put_count             a runs line or an end line
+//   put_bytes                            bytes as they are
+//   put_after                            a separator and a number
+//   value, exponent_at                   an exponent as a number; that of a variable
+//   exponents_width, put_exponents       the exponents of a monomial
+//   term_width, put_term                 a coefficient and a monomial
+//   generator_width, put_generator       a poly line
+//   standard_width, put_standard         a stairs line
+//   header_width, put_header             a basis line
+//   count_width, put_count               a runs line or an end line
 ghost use mathlib.Core.Path.{_≡_};
 ghost use mathlib.Core.List.{_∷_};
 ghost use Prim.Native.Nat.{ℕ, _+_, _*_, _≤_, _<_};
 ghost use lib.ListN.{length, getD};
-ghost use Rattle.monomial.specs.Sizes.{«most-variables»};
-ghost use Rattle.tabtext.specs.Sizes.{«most-standard», «most-terms»};
-ghost use Rattle.tabtext.specs.Text.{Number, header, number, exponents, term};
-ghost use Rattle.tabtext.specs.Printed.{rowOf, generatorOf, standardOf, printed, counted};
-ghost use Rattle.tabtext.specs.Written.{Written};
+ghost use Rattle.monomial.specs.Sizes.{«most-variables», VariableCount};
+ghost use Rattle.lines.specs.Sizes.{«most-standard», «most-terms»};
+ghost use Rattle.lines.specs.LineTerms.{exponentsOf};
+ghost use Rattle.tabtext.specs.Text.{Number, header, decimal, dotted, term};
+ghost use Rattle.tabtext.specs.Printed.{generatorLine, standardLine, printed, countLine};
+ghost use Rattle.tabtext.specs.Written.{Room, Written};
 use crate::number::number_width;
 use crate::number::put_number;
-use crate::sizes::MAX_STANDARD;
-use crate::sizes::MAX_TERMS;
+use lines::line::Generator;
+use lines::sizes::MAX_STANDARD;
 use monomial::Exponent;
 use monomial::Monomial;
 use residue::Residue;
 
-// A monic line of a basis: its terms, greatest first.
-pub struct Generator {
-    pub terms: usize,
-    pub coefficients: [Residue; MAX_TERMS],
-    pub monomials: [Monomial; MAX_TERMS],
-}
-
-pub fn put_bytes(out: &mut [u8], at: usize, w: &[u8]) -> usize
-    requires { ⌜ at + length (now w) ≤ length (now out) ⌝ }
-    ensures { λ r. ⌜ Written (now (out .entry)) at (now (w .entry)) (now (out .exit)) r ⌝ }
+pub fn put_bytes(out: &mut [u8], at: usize, bytes: &[u8]) -> usize
+    requires { ⌜ Room at (now bytes) (now out) ⌝ }
+    ensures { λ r. ⌜ Written (now (out .entry)) at (now (bytes .entry)) (now (out .exit)) r ⌝ }
 {
     let mut i = at;
     let mut j: usize = 0;
-    while j < w.len() {
-        out[i] = w[j];
+    while j < bytes.len() {
+        out[i] = bytes[j];
         i += 1;
         j += 1;
     }
@@ -52,8 +47,8 @@ pub fn put_bytes(out: &mut [u8], at: usize, w: &[u8]) -> usize
 
 // A separator, and the number v.
 fn put_after(out: &mut [u8], at: usize, separator: u8, v: u32) -> usize
-    requires { ⌜ at + length (separator ∷ number v) ≤ length (now out) ⌝ }
-    ensures { λ r. ⌜ Written (now (out .entry)) at (separator ∷ number v) (now (out .exit)) r ⌝ }
+    requires { ⌜ Room at (separator ∷ decimal v) (now out) ⌝ }
+    ensures { λ r. ⌜ Written (now (out .entry)) at (separator ∷ decimal v) (now (out .exit)) r ⌝ }
 {
     out[at] = separator;
     put_number(&mut *out, at + 1, v)
@@ -69,14 +64,14 @@ fn value(x: Exponent) -> u32
 // The exponent of variable i, counted from 0.
 fn exponent_at(m: Monomial, i: usize) -> u32
     requires { ⌜ i < most-variables ⌝ }
-    ensures { λ r. ⌜ ((n : ℕ) → i < n → r ≡ getD (rowOf n m) i 0) × Number r ⌝ }
+    ensures { λ r. ⌜ ((n : ℕ) → i < n → r ≡ getD (exponentsOf n m) i 0) × Number r ⌝ }
 {
     value(m.e[i])
 }
 
-pub fn row_width(m: Monomial, n: usize) -> usize
-    requires { ⌜ (1 ≤ n) × (n ≤ most-variables) ⌝ }
-    ensures { λ r. ⌜ (r ≡ length (exponents (rowOf n m))) × (r ≤ 24) ⌝ }
+pub fn exponents_width(m: Monomial, n: usize) -> usize
+    requires { ⌜ VariableCount n ⌝ }
+    ensures { λ r. ⌜ (r ≡ length (dotted (exponentsOf n m))) × (r ≤ 24) ⌝ }
 {
     let mut w = number_width(exponent_at(m, 0));
     let mut k: usize = 1;
@@ -87,9 +82,9 @@ pub fn row_width(m: Monomial, n: usize) -> usize
     w
 }
 
-pub fn put_row(out: &mut [u8], at: usize, m: Monomial, n: usize) -> usize
-    requires { ⌜ (1 ≤ n) × (n ≤ most-variables) × (at + length (exponents (rowOf n m)) ≤ length (now out)) ⌝ }
-    ensures { λ r. ⌜ Written (now (out .entry)) at (exponents (rowOf n m)) (now (out .exit)) r ⌝ }
+pub fn put_exponents(out: &mut [u8], at: usize, m: Monomial, n: usize) -> usize
+    requires { ⌜ VariableCount n × Room at (dotted (exponentsOf n m)) (now out) ⌝ }
+    ensures { λ r. ⌜ Written (now (out .entry)) at (dotted (exponentsOf n m)) (now (out .exit)) r ⌝ }
 {
     let mut i = put_number(&mut *out, at, exponent_at(m, 0));
     let mut j: usize = 1;
@@ -101,24 +96,24 @@ pub fn put_row(out: &mut [u8], at: usize, m: Monomial, n: usize) -> usize
 }
 
 pub fn term_width(c: Residue, m: Monomial, n: usize) -> usize
-    requires { ⌜ (1 ≤ n) × (n ≤ most-variables) ⌝ }
-    ensures { λ r. ⌜ (r ≡ length (term (c .0, rowOf n m))) × (r ≤ 30) ⌝ }
+    requires { ⌜ VariableCount n ⌝ }
+    ensures { λ r. ⌜ (r ≡ length (term (c .0, exponentsOf n m))) × (r ≤ 30) ⌝ }
 {
-    number_width(c.0 as u32) + 1 + row_width(m, n)
+    number_width(c.0 as u32) + 1 + exponents_width(m, n)
 }
 
 pub fn put_term(out: &mut [u8], at: usize, c: Residue, m: Monomial, n: usize) -> usize
-    requires { ⌜ (1 ≤ n) × (n ≤ most-variables) × (at + length (term (c .0, rowOf n m)) ≤ length (now out)) ⌝ }
-    ensures { λ r. ⌜ Written (now (out .entry)) at (term (c .0, rowOf n m)) (now (out .exit)) r ⌝ }
+    requires { ⌜ VariableCount n × Room at (term (c .0, exponentsOf n m)) (now out) ⌝ }
+    ensures { λ r. ⌜ Written (now (out .entry)) at (term (c .0, exponentsOf n m)) (now (out .exit)) r ⌝ }
 {
     let i = put_number(&mut *out, at, c.0 as u32);
     out[i] = b':';
-    put_row(&mut *out, i + 1, m, n)
+    put_exponents(&mut *out, i + 1, m, n)
 }
 
 pub fn generator_width(g: Generator, n: usize) -> usize
-    requires { ⌜ (g .terms ≤ most-terms) × (1 ≤ n) × (n ≤ most-variables) ⌝ }
-    ensures { λ r. ⌜ (r ≡ length (printed (generatorOf n g))) × (r ≤ 5 + 31 * most-terms) ⌝ }
+    requires { ⌜ (g .terms ≤ most-terms) × VariableCount n ⌝ }
+    ensures { λ r. ⌜ (r ≡ length (printed (generatorLine n g))) × (r ≤ 5 + 31 * most-terms) ⌝ }
 {
     let mut w: usize = 5;
     let mut k: usize = 0;
@@ -130,8 +125,8 @@ pub fn generator_width(g: Generator, n: usize) -> usize
 }
 
 pub fn put_generator(out: &mut [u8], at: usize, g: Generator, n: usize) -> usize
-    requires { ⌜ (g .terms ≤ most-terms) × (1 ≤ n) × (n ≤ most-variables) × (at + length (printed (generatorOf n g)) ≤ length (now out)) ⌝ }
-    ensures { λ r. ⌜ Written (now (out .entry)) at (printed (generatorOf n g)) (now (out .exit)) r ⌝ }
+    requires { ⌜ (g .terms ≤ most-terms) × VariableCount n × Room at (printed (generatorLine n g)) (now out) ⌝ }
+    ensures { λ r. ⌜ Written (now (out .entry)) at (printed (generatorLine n g)) (now (out .exit)) r ⌝ }
 {
     let mut i = put_bytes(&mut *out, at, b"poly");
     let mut j: usize = 0;
@@ -145,13 +140,13 @@ pub fn put_generator(out: &mut [u8], at: usize, g: Generator, n: usize) -> usize
 }
 
 pub fn standard_width(monomials: [Monomial; MAX_STANDARD], count: usize, n: usize) -> usize
-    requires { ⌜ (count ≤ most-standard) × (1 ≤ n) × (n ≤ most-variables) ⌝ }
-    ensures { λ r. ⌜ (r ≡ length (printed (standardOf n count monomials))) × (r ≤ 7 + 25 * most-standard) ⌝ }
+    requires { ⌜ (count ≤ most-standard) × VariableCount n ⌝ }
+    ensures { λ r. ⌜ (r ≡ length (printed (standardLine n count monomials))) × (r ≤ 7 + 25 * most-standard) ⌝ }
 {
     let mut w: usize = 7;
     let mut k: usize = 0;
     while k < count {
-        w += 1 + row_width(monomials[k], n);
+        w += 1 + exponents_width(monomials[k], n);
         k += 1;
     }
     w
@@ -164,14 +159,14 @@ pub fn put_standard(
     count: usize,
     n: usize,
 ) -> usize
-    requires { ⌜ (count ≤ most-standard) × (1 ≤ n) × (n ≤ most-variables) × (at + length (printed (standardOf n count monomials)) ≤ length (now out)) ⌝ }
-    ensures { λ r. ⌜ Written (now (out .entry)) at (printed (standardOf n count monomials)) (now (out .exit)) r ⌝ }
+    requires { ⌜ (count ≤ most-standard) × VariableCount n × Room at (printed (standardLine n count monomials)) (now out) ⌝ }
+    ensures { λ r. ⌜ Written (now (out .entry)) at (printed (standardLine n count monomials)) (now (out .exit)) r ⌝ }
 {
     let mut i = put_bytes(&mut *out, at, b"stairs");
     let mut j: usize = 0;
     while j < count {
         out[i] = b'\t';
-        i = put_row(&mut *out, i + 1, monomials[j], n);
+        i = put_exponents(&mut *out, i + 1, monomials[j], n);
         j += 1;
     }
     out[i] = b'\n';
@@ -186,7 +181,7 @@ pub fn header_width(word: &[u8], p: u16, n: usize) -> usize
 }
 
 pub fn put_header(out: &mut [u8], at: usize, word: &[u8], p: u16, n: usize) -> usize
-    requires { ⌜ (n ≤ most-variables) × (at + length (printed (header (now word) p n)) ≤ length (now out)) ⌝ }
+    requires { ⌜ (n ≤ most-variables) × Room at (printed (header (now word) p n)) (now out) ⌝ }
     ensures { λ r. ⌜ Written (now (out .entry)) at (printed (header (now (word .entry)) p n)) (now (out .exit)) r ⌝ }
 {
     let mut i = put_bytes(&mut *out, at, b"basis\t");
@@ -199,14 +194,14 @@ pub fn put_header(out: &mut [u8], at: usize, word: &[u8], p: u16, n: usize) -> u
 
 pub fn count_width(word: &[u8], v: u32) -> usize
     requires { ⌜ Number v ⌝ }
-    ensures { λ r. ⌜ r ≡ length (counted (now (word .entry)) v) ⌝ }
+    ensures { λ r. ⌜ r ≡ length (countLine (now (word .entry)) v) ⌝ }
 {
     word.len() + number_width(v) + 2
 }
 
 pub fn put_count(out: &mut [u8], at: usize, word: &[u8], v: u32) -> usize
-    requires { ⌜ at + length (counted (now word) v) ≤ length (now out) ⌝ }
-    ensures { λ r. ⌜ Written (now (out .entry)) at (counted (now (word .entry)) v) (now (out .exit)) r ⌝ }
+    requires { ⌜ Room at (countLine (now word) v) (now out) ⌝ }
+    ensures { λ r. ⌜ Written (now (out .entry)) at (countLine (now (word .entry)) v) (now (out .exit)) r ⌝ }
 {
     let mut i = put_bytes(&mut *out, at, word);
     i = put_after(&mut *out, i, b'\t', v);

@@ -3,9 +3,10 @@ ghost use mathlib.Core.Path.{_≡_};
 ghost use Prim.Native.Nat.{_≤_};
 ghost use lib.ListN.{length, drop};
 ghost use Rattle.monomial.specs.Sizes.{«most-variables»};
-ghost use Rattle.tabtext.specs.Readers.{letter, readWord, readOrder, readLast, readCount, readHeader, readGenerator, readStandard, readPoints, readEnd};
-ghost use Rattle.tabtext.specs.Answers.{NumberSays, NextSays, readOf, readAt, orElse};
-use crate::number::Number;
+ghost use Rattle.tabtext.specs.Text.{bytes};
+ghost use Rattle.tabtext.specs.Readers.{letter, readOrder, readLast, readHeader, readGenerator, readStandard, readPoints, readEnd};
+ghost use Rattle.tabtext.specs.Answers.{NumberSays, NextSays, WordAt, WordSays, readOf, readAt};
+use crate::number::NumberRead;
 use crate::number::byte_at;
 use crate::terms::Next;
 use crate::terms::byte_is;
@@ -30,12 +31,13 @@ pub struct Header {
 // The five kinds: basis, poly, stairs, runs, end. A span starts after the first word and ends at LF.
 pub enum Kind {
     Header(Header),
-    Terms(Span),
+    Generator(Span),
     Standard(Span),
     Points(u32),
     End(u32),
 }
 
+// A line's number and its kind.
 pub struct Record {
     pub line: usize,
     pub kind: Kind,
@@ -47,54 +49,40 @@ pub enum Read {
     Bad,
 }
 
-impl Read {
-    // The other answer where this one is bad.
-    fn or(self, other: Read) -> Read
-        ensures { λ r. ⌜ r ≡ orElse self other ⌝ }
-    {
-        match self {
-            Read::Found(record, next) => Read::Found(record, next),
-            Read::Bad => other,
-        }
-    }
-}
-
-// A word: the place after it.
-pub fn read_word(s: &[u8], at: usize, w: &[u8]) -> Next
-    requires { ⌜ at ≤ length (now s) ⌝ }
-    ensures { λ r. ⌜ NextSays (readWord (now (w .entry))) (now (s .entry)) at r ⌝ }
+// Whether a word stands at a place.
+pub fn word_at(text: &[u8], at: usize, word: &[u8]) -> bool
+    requires { ⌜ at ≤ length (now text) ⌝ }
+    ensures { λ r. ⌜ WordSays (now (word .entry)) (now (text .entry)) at r ⌝ }
 {
-    let mut i = at;
     let mut j: usize = 0;
-    while j < w.len() {
-        if !byte_is(s, i, w[j]) {
-            return Next::Bad;
+    while j < word.len() {
+        if !byte_is(text, at + j, word[j]) {
+            return false;
         }
-        i += 1;
         j += 1;
     }
-    Next::At(i)
+    true
 }
 
 // Whether a letter a to z stands at a place.
-fn letter_at(s: &[u8], i: usize) -> bool
-    ensures { λ r. ⌜ r ≡ letter (drop i (now (s .entry))) ⌝ }
+fn letter_at(text: &[u8], i: usize) -> bool
+    ensures { λ r. ⌜ r ≡ letter (drop i (now (text .entry))) ⌝ }
 {
-    let b = byte_at(s, i);
+    let b = byte_at(text, i);
     if b'a' <= b { b <= b'z' } else { false }
 }
 
 // An order word: a letter and at most seven more.
-fn read_order(s: &[u8], at: usize) -> Next
-    ensures { λ r. ⌜ NextSays readOrder (now (s .entry)) at r ⌝ }
+fn read_order(text: &[u8], at: usize) -> Next
+    ensures { λ r. ⌜ NextSays readOrder (now (text .entry)) at r ⌝ }
 {
-    if !letter_at(s, at) {
+    if !letter_at(text, at) {
         return Next::Bad;
     }
     let mut i = at + 1;
     let mut k: usize = 7;
     while 0 < k {
-        if !letter_at(s, i) {
+        if !letter_at(text, i) {
             return Next::At(i);
         }
         i += 1;
@@ -104,44 +92,31 @@ fn read_order(s: &[u8], at: usize) -> Next
 }
 
 // The last field of a line: a tab, a number and LF.
-fn read_last(s: &[u8], at: usize) -> Number
-    ensures { λ r. ⌜ NumberSays readLast (now (s .entry)) at r ⌝ }
+fn read_last(text: &[u8], at: usize) -> NumberRead
+    ensures { λ r. ⌜ NumberSays readLast (now (text .entry)) at r ⌝ }
 {
-    let Number::Value(v, i) = read_field(s, at, b'\t') else {
-        return Number::Bad;
+    let NumberRead::Value(v, i) = read_field(text, at, b'\t') else {
+        return NumberRead::Bad;
     };
-    let Next::At(next) = read_byte(s, i, b'\n') else {
-        return Number::Bad;
+    let Next::At(next) = read_byte(text, i, b'\n') else {
+        return NumberRead::Bad;
     };
-    Number::Value(v, next)
+    NumberRead::Value(v, next)
 }
 
-// A line of a word and a number.
-fn read_count(s: &[u8], at: usize, w: &[u8]) -> Number
-    requires { ⌜ at ≤ length (now s) ⌝ }
-    ensures { λ r. ⌜ NumberSays (readCount (now (w .entry))) (now (s .entry)) at r ⌝ }
+// A basis line. This reader and the four after it are called where the word of their kind stands.
+fn read_header(text: &[u8], at: usize, line: usize) -> Read
+    requires { ⌜ WordAt (bytes "basis\t") (now text) at ⌝ }
+    ensures { λ r. ⌜ r ≡ readOf line (now (text .entry)) at (readHeader (drop at (now (text .entry)))) ⌝ }
 {
-    let Next::At(i) = read_word(s, at, w) else {
-        return Number::Bad;
-    };
-    read_last(s, i)
-}
-
-// A basis line.
-fn read_header(s: &[u8], at: usize, line: usize) -> Read
-    requires { ⌜ at ≤ length (now s) ⌝ }
-    ensures { λ r. ⌜ r ≡ readOf line (now (s .entry)) at (readHeader (drop at (now (s .entry)))) ⌝ }
-{
-    let Next::At(start) = read_word(s, at, b"basis\t") else {
+    let start = at + 6;
+    let Next::At(end) = read_order(text, start) else {
         return Read::Bad;
     };
-    let Next::At(end) = read_order(s, start) else {
+    let NumberRead::Value(p, i) = read_field(text, end, b'\t') else {
         return Read::Bad;
     };
-    let Number::Value(p, i) = read_field(s, end, b'\t') else {
-        return Read::Bad;
-    };
-    let Number::Value(n, next) = read_last(s, i) else {
+    let NumberRead::Value(n, next) = read_last(text, i) else {
         return Read::Bad;
     };
     let order = Span { start, end };
@@ -150,33 +125,29 @@ fn read_header(s: &[u8], at: usize, line: usize) -> Read
 }
 
 // A poly line.
-fn read_generator(s: &[u8], at: usize, n: usize, line: usize) -> Read
-    requires { ⌜ (at ≤ length (now s)) × (n ≤ most-variables) ⌝ }
-    ensures { λ r. ⌜ r ≡ readOf line (now (s .entry)) at (readGenerator n (drop at (now (s .entry)))) ⌝ }
+fn read_generator(text: &[u8], at: usize, n: usize, line: usize) -> Read
+    requires { ⌜ WordAt (bytes "poly") (now text) at × (n ≤ most-variables) ⌝ }
+    ensures { λ r. ⌜ r ≡ readOf line (now (text .entry)) at (readGenerator n (drop at (now (text .entry)))) ⌝ }
 {
-    let Next::At(start) = read_word(s, at, b"poly") else {
-        return Read::Bad;
-    };
-    if !byte_is(s, start, b'\t') {
+    let start = at + 4;
+    if !byte_is(text, start, b'\t') {
         return Read::Bad;
     }
-    let Next::At(next) = read_terms(s, start, n) else {
+    let Next::At(next) = read_terms(text, start, n) else {
         return Read::Bad;
     };
     let end = next - 1;
-    let kind = Kind::Terms(Span { start, end });
+    let kind = Kind::Generator(Span { start, end });
     Read::Found(Record { line, kind }, next)
 }
 
 // A stairs line.
-fn read_standard(s: &[u8], at: usize, n: usize, line: usize) -> Read
-    requires { ⌜ (at ≤ length (now s)) × (n ≤ most-variables) ⌝ }
-    ensures { λ r. ⌜ r ≡ readOf line (now (s .entry)) at (readStandard n (drop at (now (s .entry)))) ⌝ }
+fn read_standard(text: &[u8], at: usize, n: usize, line: usize) -> Read
+    requires { ⌜ WordAt (bytes "stairs") (now text) at × (n ≤ most-variables) ⌝ }
+    ensures { λ r. ⌜ r ≡ readOf line (now (text .entry)) at (readStandard n (drop at (now (text .entry)))) ⌝ }
 {
-    let Next::At(start) = read_word(s, at, b"stairs") else {
-        return Read::Bad;
-    };
-    let Next::At(next) = read_rows(s, start, n) else {
+    let start = at + 6;
+    let Next::At(next) = read_rows(text, start, n) else {
         return Read::Bad;
     };
     let end = next - 1;
@@ -185,11 +156,11 @@ fn read_standard(s: &[u8], at: usize, n: usize, line: usize) -> Read
 }
 
 // A runs line.
-fn read_points(s: &[u8], at: usize, line: usize) -> Read
-    requires { ⌜ at ≤ length (now s) ⌝ }
-    ensures { λ r. ⌜ r ≡ readOf line (now (s .entry)) at (readPoints (drop at (now (s .entry)))) ⌝ }
+fn read_points(text: &[u8], at: usize, line: usize) -> Read
+    requires { ⌜ WordAt (bytes "runs") (now text) at ⌝ }
+    ensures { λ r. ⌜ r ≡ readOf line (now (text .entry)) at (readPoints (drop at (now (text .entry)))) ⌝ }
 {
-    let Number::Value(v, next) = read_count(s, at, b"runs") else {
+    let NumberRead::Value(v, next) = read_last(text, at + 4) else {
         return Read::Bad;
     };
     let kind = Kind::Points(v);
@@ -197,11 +168,11 @@ fn read_points(s: &[u8], at: usize, line: usize) -> Read
 }
 
 // An end line.
-fn read_end(s: &[u8], at: usize, line: usize) -> Read
-    requires { ⌜ at ≤ length (now s) ⌝ }
-    ensures { λ r. ⌜ r ≡ readOf line (now (s .entry)) at (readEnd (drop at (now (s .entry)))) ⌝ }
+fn read_end(text: &[u8], at: usize, line: usize) -> Read
+    requires { ⌜ WordAt (bytes "end") (now text) at ⌝ }
+    ensures { λ r. ⌜ r ≡ readOf line (now (text .entry)) at (readEnd (drop at (now (text .entry)))) ⌝ }
 {
-    let Number::Value(v, next) = read_count(s, at, b"end") else {
+    let NumberRead::Value(v, next) = read_last(text, at + 3) else {
         return Read::Bad;
     };
     let kind = Kind::End(v);
@@ -209,13 +180,22 @@ fn read_end(s: &[u8], at: usize, line: usize) -> Read
 }
 
 // The line at a place, in n variables: its record, with the line's number, and the place after its LF.
-pub fn read_record(s: &[u8], at: usize, n: usize, line: usize) -> Read
-    requires { ⌜ (at ≤ length (now s)) × (n ≤ most-variables) ⌝ }
-    ensures { λ r. ⌜ r ≡ readAt n line (now (s .entry)) at ⌝ }
+// Its first word decides which reader reads it.
+pub fn read_record(text: &[u8], at: usize, n: usize, line: usize) -> Read
+    requires { ⌜ (at ≤ length (now text)) × (n ≤ most-variables) ⌝ }
+    ensures { λ r. ⌜ r ≡ readAt n line (now (text .entry)) at ⌝ }
 {
-    read_header(s, at, line)
-        .or(read_generator(s, at, n, line))
-        .or(read_standard(s, at, n, line))
-        .or(read_points(s, at, line))
-        .or(read_end(s, at, line))
+    if word_at(text, at, b"basis\t") {
+        read_header(text, at, line)
+    } else if word_at(text, at, b"poly") {
+        read_generator(text, at, n, line)
+    } else if word_at(text, at, b"stairs") {
+        read_standard(text, at, n, line)
+    } else if word_at(text, at, b"runs") {
+        read_points(text, at, line)
+    } else if word_at(text, at, b"end") {
+        read_end(text, at, line)
+    } else {
+        Read::Bad
+    }
 }

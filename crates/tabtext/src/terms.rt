@@ -5,7 +5,7 @@ ghost use lib.ListN.{drop};
 ghost use Rattle.monomial.specs.Sizes.{«most-variables»};
 ghost use Rattle.tabtext.specs.Readers.{startsWith, readByte, readField, readExponent, readTerms, readRows};
 ghost use Rattle.tabtext.specs.Answers.{NumberSays, NextSays, RowSays, TermSays};
-use crate::number::Number;
+use crate::number::NumberRead;
 use crate::number::read_number;
 use monomial::MAX_VARIABLES;
 
@@ -16,7 +16,7 @@ pub enum Next {
 }
 
 // A row of numbers, of which the first n were read.
-pub struct RowRead {
+pub struct ExponentsRead {
     pub next: Next,
     pub row: [u32; MAX_VARIABLES],
 }
@@ -28,18 +28,22 @@ pub struct TermRead {
     pub row: [u32; MAX_VARIABLES],
 }
 
-// Whether the byte b stands at a place.
-pub fn byte_is(s: &[u8], i: usize, b: u8) -> bool
-    ensures { λ r. ⌜ r ≡ startsWith b (drop i (now (s .entry))) ⌝ }
+// Whether a byte stands at a place.
+pub fn byte_is(text: &[u8], i: usize, byte: u8) -> bool
+    ensures { λ r. ⌜ r ≡ startsWith byte (drop i (now (text .entry))) ⌝ }
 {
-    if i < s.len() { s[i] == b } else { false }
+    if i < text.len() {
+        text[i] == byte
+    } else {
+        false
+    }
 }
 
 // A byte: the place after it.
-pub fn read_byte(s: &[u8], at: usize, b: u8) -> Next
-    ensures { λ r. ⌜ NextSays (readByte b) (now (s .entry)) at r ⌝ }
+pub fn read_byte(text: &[u8], at: usize, byte: u8) -> Next
+    ensures { λ r. ⌜ NextSays (readByte byte) (now (text .entry)) at r ⌝ }
 {
-    if byte_is(s, at, b) {
+    if byte_is(text, at, byte) {
         Next::At(at + 1)
     } else {
         Next::Bad
@@ -47,34 +51,34 @@ pub fn read_byte(s: &[u8], at: usize, b: u8) -> Next
 }
 
 // A separator and a number.
-pub fn read_field(s: &[u8], at: usize, separator: u8) -> Number
-    ensures { λ r. ⌜ NumberSays (readField separator) (now (s .entry)) at r ⌝ }
+pub fn read_field(text: &[u8], at: usize, separator: u8) -> NumberRead
+    ensures { λ r. ⌜ NumberSays (readField separator) (now (text .entry)) at r ⌝ }
 {
-    let Next::At(i) = read_byte(s, at, separator) else {
-        return Number::Bad;
+    let Next::At(i) = read_byte(text, at, separator) else {
+        return NumberRead::Bad;
     };
-    read_number(s, i)
+    read_number(text, i)
 }
 
 // An exponent that stands after j others: the first one alone, a later one after a dot.
-fn read_exponent(s: &[u8], at: usize, j: usize) -> Number
-    ensures { λ r. ⌜ NumberSays (readExponent j) (now (s .entry)) at r ⌝ }
+fn read_exponent(text: &[u8], at: usize, j: usize) -> NumberRead
+    ensures { λ r. ⌜ NumberSays (readExponent j) (now (text .entry)) at r ⌝ }
 {
     if j == 0 {
-        read_number(s, at)
+        read_number(text, at)
     } else {
-        read_field(s, at, b'.')
+        read_field(text, at, b'.')
     }
 }
 
 // A separator and n exponents.
-pub fn read_row(s: &[u8], at: usize, n: usize, separator: u8) -> RowRead
+pub fn read_exponents(text: &[u8], at: usize, n: usize, separator: u8) -> ExponentsRead
     requires { ⌜ n ≤ most-variables ⌝ }
-    ensures { λ r. ⌜ RowSays n separator (now (s .entry)) at (r .next) (r .row) ⌝ }
+    ensures { λ r. ⌜ RowSays n separator (now (text .entry)) at (r .next) (r .row) ⌝ }
 {
     let mut row = [0; MAX_VARIABLES];
-    let Next::At(start) = read_byte(s, at, separator) else {
-        return RowRead {
+    let Next::At(start) = read_byte(text, at, separator) else {
+        return ExponentsRead {
             next: Next::Bad,
             row,
         };
@@ -82,8 +86,8 @@ pub fn read_row(s: &[u8], at: usize, n: usize, separator: u8) -> RowRead
     let mut i = start;
     let mut j: usize = 0;
     while j < n {
-        let Number::Value(v, next) = read_exponent(s, i, j) else {
-            return RowRead {
+        let NumberRead::Value(v, next) = read_exponent(text, i, j) else {
+            return ExponentsRead {
                 next: Next::Bad,
                 row,
             };
@@ -92,25 +96,25 @@ pub fn read_row(s: &[u8], at: usize, n: usize, separator: u8) -> RowRead
         i = next;
         j += 1;
     }
-    RowRead {
+    ExponentsRead {
         next: Next::At(i),
         row,
     }
 }
 
 // A coefficient, and n exponents after a colon.
-pub fn read_term(s: &[u8], at: usize, n: usize) -> TermRead
+pub fn read_term(text: &[u8], at: usize, n: usize) -> TermRead
     requires { ⌜ n ≤ most-variables ⌝ }
-    ensures { λ r. ⌜ TermSays n (now (s .entry)) at (r .next) (r .coefficient) (r .row) ⌝ }
+    ensures { λ r. ⌜ TermSays n (now (text .entry)) at (r .next) (r .coefficient) (r .row) ⌝ }
 {
-    let Number::Value(coefficient, i) = read_number(s, at) else {
+    let NumberRead::Value(coefficient, i) = read_number(text, at) else {
         return TermRead {
             next: Next::Bad,
             coefficient: 0,
             row: [0; MAX_VARIABLES],
         };
     };
-    let read = read_row(s, i, n, b':');
+    let read = read_exponents(text, i, n, b':');
     let next = read.next;
     let row = read.row;
     TermRead {
@@ -121,35 +125,35 @@ pub fn read_term(s: &[u8], at: usize, n: usize) -> TermRead
 }
 
 // Terms, a tab before each, up to LF: the place after it.
-pub fn read_terms(s: &[u8], at: usize, n: usize) -> Next
+pub fn read_terms(text: &[u8], at: usize, n: usize) -> Next
     requires { ⌜ n ≤ most-variables ⌝ }
-    ensures { λ r. ⌜ NextSays (readTerms n) (now (s .entry)) at r ⌝ }
+    ensures { λ r. ⌜ NextSays (readTerms n) (now (text .entry)) at r ⌝ }
 {
     let mut i = at;
-    while byte_is(s, i, b'\t') {
-        let term = read_term(s, i + 1, n);
+    while byte_is(text, i, b'\t') {
+        let term = read_term(text, i + 1, n);
         let next = term.next;
         let Next::At(j) = next else {
             return Next::Bad;
         };
         i = j;
     }
-    read_byte(s, i, b'\n')
+    read_byte(text, i, b'\n')
 }
 
 // Rows of n exponents, a tab before each, up to LF: the place after it.
-pub fn read_rows(s: &[u8], at: usize, n: usize) -> Next
+pub fn read_rows(text: &[u8], at: usize, n: usize) -> Next
     requires { ⌜ n ≤ most-variables ⌝ }
-    ensures { λ r. ⌜ NextSays (readRows n) (now (s .entry)) at r ⌝ }
+    ensures { λ r. ⌜ NextSays (readRows n) (now (text .entry)) at r ⌝ }
 {
     let mut i = at;
-    while byte_is(s, i, b'\t') {
-        let row = read_row(s, i, n, b'\t');
+    while byte_is(text, i, b'\t') {
+        let row = read_exponents(text, i, n, b'\t');
         let next = row.next;
         let Next::At(j) = next else {
             return Next::Bad;
         };
         i = j;
     }
-    read_byte(s, i, b'\n')
+    read_byte(text, i, b'\n')
 }

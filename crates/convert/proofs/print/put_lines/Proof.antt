@@ -4,71 +4,76 @@ use mathlib.Core.Path.{_≡_}
 use native.Mathlib.Omega.{arith}
 use denote.Ref.{now}
 use lib.ListN.{length}
-use Rattle.tabtext.specs.Text.{Line}
-use Rattle.tabtext.specs.Printed.{generatorOf}
-use Rattle.tabtext.proofs.Separators.{Stands}
+use Rattle.tabtext.specs.Text.{TextLine}
+use Rattle.tabtext.specs.Printed.{generatorLine}
+use Rattle.tabtext.proofs.Separators.{StandsAt}
 use Rattle.tabtext.proofs.Writing.{written-length}
 use Rattle.fglm.specs.Lex.{LexBasis, lexIn}
-use Rattle.convert.specs.PolyLines.{polyLines}
-use Rattle.convert.proofs.LineSequence.{Printing, printing-start, printing-room, printing-turn, printing-end}
+use Rattle.convert.specs.LexText.{generatorLines}
+use Rattle.convert.proofs.LineSequence.{PrintingLines, printing-lines-start, printing-lines-room, printing-lines-turn, printing-lines-end}
 use Rattle.convert.proofs.LinePlaces.{read-many, read-stands, read-held}
 use Rattle.convert.proofs.print.put_lines.Statement.{statement}
 use Rattle.convert.proofs.print.put_lines.Tie as tie
 
 abbrev Inv-loop : tie.InvT-loop
-Inv-loop out₀ at terms coefficients exponents b n i₀ j₀ out i j =
-    let lines = polyLines n (lexIn b terms coefficients exponents) in
-    (length lines ≡ b .lines) × Printing lines out₀ at out i j
+Inv-loop out₀ at counts coefficients exponents lex n i₀ j₀ out i j =
+    let lines = generatorLines n (lexIn lex counts coefficients exponents) in
+    (length lines ≡ lex .lines) × PrintingLines lines out₀ at out i j
 
 abbrev μ-loop : tie.MeasureT-loop
-μ-loop out₀ at terms coefficients exponents b n i₀ j₀ out i j = b .lines - j
+μ-loop out₀ at counts coefficients exponents lex n i₀ j₀ out i j = lex .lines - j
 
 -- The lex basis that is lent.
 abbrev lent : tie.Start Inv-loop μ-loop → LexBasis
-lent c = lexIn (c .args .b) (now (c .args .terms)) (now (c .args .coefficients)) (now (c .args .exponents))
+lent c = lexIn (c .args .lex) (now (c .args .counts)) (now (c .args .coefficients)) (now (c .args .exponents))
 
 loop-holds : tie.Need-loop-holds Inv-loop μ-loop
 loop-holds c =
     let s = c .before .before .before .before in
-    (read-many (s .args .b) _ _ _ (s .pre .1 .lines) (s .args .n), printing-start (s .pre .4))
+    (read-many (s .args .lex) _ _ _ (s .pre .basis .0 .lines) (s .args .n), printing-lines-start (s .pre .basis .1))
+
+-- The entry, and the loop's head, from the place after a line is read.
+abbrev start : tie.At-loop Inv-loop μ-loop → tie.Start Inv-loop μ-loop
+start c = c .before .before .before .before .before
+
+abbrev head : tie.After-line-at Inv-loop μ-loop → tie.At-loop Inv-loop μ-loop
+head c = c .before .before .before
 
 line-at-requires : tie.Need-line-at-requires Inv-loop μ-loop
-line-at-requires c κs = let s = c .before .before .before .before .before .before .before in (omega (arith, s .pre .1 .lines), s .pre .0)
-
-abbrev start : tie.After-line-at Inv-loop μ-loop → tie.Start Inv-loop μ-loop
-start c = c .before .before .before .before .before .before .before .before
+line-at-requires c κs = let s = start (c .before .before) in (omega (arith, s .pre .basis .0 .lines), s .pre .arrays)
 
 -- The line that is read.
-abbrev here : tie.After-line-at Inv-loop μ-loop → Line
-here c = generatorOf (start c .args .n) (c .line-at .result)
+abbrev here : tie.After-line-at Inv-loop μ-loop → TextLine
+here c = generatorLine (start (head c) .args .n) (c .line-at .result)
 
-stands : (c : tie.After-line-at Inv-loop μ-loop) → Stands (polyLines (start c .args .n) (lent (start c))) (c .before .before .before .loop .j) (here c)
-stands c = let s = start c in read-stands (s .args .b) _ _ _ (s .pre .1 .lines) _ _ (c .line-at .ensures) (c .before .if1 .taken) (s .args .n)
+stands : (c : tie.After-line-at Inv-loop μ-loop) →
+    let s = start (head c) in
+    StandsAt (generatorLines (s .args .n) (lent s)) (head c .loop .j) (here c)
+stands c =
+    let s = start (head c) in
+    read-stands (s .args .lex) _ _ _ (s .pre .basis .0 .lines) _ _ (c .line-at .ensures) (c .before .if1 .taken) (s .args .n)
 
 put-generator-requires : tie.Need-put-generator-requires Inv-loop μ-loop
 put-generator-requires c κs =
     let x = c .before in
-    let s = start x in (
-      read-held (s .args .b) _ _ _ (s .pre .1 .lines) _ _ (x .line-at .ensures) (x .before .if1 .taken) (s .pre .1),
-      s .pre .2,
-      s .pre .3,
-      printing-room (x .before .before .before .loop .inv .1) (here x) (stands x),
+    let s = start (head x) in
+    let fit = s .pre .basis .0 in (
+      read-held (s .args .lex) _ _ _ (fit .lines) _ _ (x .line-at .ensures) (x .before .if1 .taken) _ fit,
+      fit .variables,
+      printing-lines-room (head x .loop .inv .1) (here x) (stands x),
     )
 
 add-j : tie.Need-add-j Inv-loop μ-loop
-add-j c = let s = c .before .before .before .before .before .before .before .before .before .before .before .before in omega (arith, s .pre .1 .lines)
-
-loop-less : tie.Need-loop-less Inv-loop μ-loop
-loop-less c = omega arith
+add-j c = let x = c .before .before .before .before in omega (arith, start (head x) .pre .basis .0 .lines)
 
 loop-again : tie.Need-loop-again Inv-loop μ-loop
 loop-again c =
     let x = c .before .before .before .before in
-    let v = x .before .before .before .loop .inv in
-    (v .0, printing-turn (v .1) (here x) (stands x) (c .before .before .put-generator .ensures))
+    let v = head x .loop .inv in
+    (v .0, printing-lines-turn (v .1) (here x) (stands x) (c .before .before .put-generator .ensures))
 
 returns : tie.Need-returns Inv-loop μ-loop
-returns c = let v = c .before .before .loop .inv in printing-end (v .1) (omega (arith, v .0, c .if1 .left))
+returns c = let v = c .before .before .loop .inv in printing-lines-end (v .1) (omega (arith, v .0, c .if1 .left))
 
 same-length : tie.Need-same-length Inv-loop μ-loop
 same-length c = written-length (returns c)
@@ -83,7 +88,7 @@ put-lines-spec =
     line-at-requires
     put-generator-requires
     add-j
-    loop-less
+    (λ c. omega arith)
     loop-again
     same-length
     returns)

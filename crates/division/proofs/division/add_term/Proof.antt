@@ -1,54 +1,49 @@
 -- `add_term` meets its contract.
 use Prim.Native.Nat.{_<_}
 use lib.ListN.{length}
+use native.Mathlib.Omega.{arith}
+use borrow.Author.Needs.{needs}
 use Rattle.monomial.specs.Represented.{row}
 use Rattle.division.specs.GrevlexPlace.{place}
-use native.Mathlib.Omega.{arith}
 use Rattle.division.proofs.AddedTerms.{adds-store}
-use borrow.Author.Needs.{needs}
 use Rattle.division.proofs.division.add_term.Statement.{statement}
 use Rattle.division.proofs.division.add_term.Tie as tie
 
-place-requires : tie.Need-place-requires
-place-requires c κs = (c .before .pre .0 .variables, c .before .pre .2)
+abbrev start : tie.After-place → tie.Start
+start c = c .before .before
 
-mul-t8 : tie.Need-mul-t8
-mul-t8 c = search needs
+place-requires : tie.Need-place-requires
+place-requires c κs = record { variables = c .before .pre .work .variables .most; low = c .before .pre .low }
 
 slice-read-t10 : tie.Need-slice-read-t10
-slice-read-t10 c = omega (arith, c .before .before .before .pre .0 .room, c .before .place .ensures .1)
+slice-read-t10 c = omega (arith, start (c .before) .pre .work .room, c .before .place .ensures .inside)
 
 add-requires : tie.Need-add-requires
 add-requires c κs =
-    let s = c .before .before .before in
-    (rw (c .before .place .ensures .0) (s .pre .0 .residues _), s .pre .1, s .pre .0 .modulus .1)
-
-mul-work : tie.Need-mul-work
-mul-work c = search needs
+    let pre = start (c .before) .pre in
+    (rw (c .before .place .ensures .value) (pre .work .residues _), pre .residue, pre .work .modulus .size)
 
 slice-write-work : tie.Need-slice-write-work
-slice-write-work c = omega (arith, c .before .before .before .before .pre .0 .room, c .before .before .place .ensures .1)
-
-same-length : tie.Need-same-length
-same-length c = search needs
+slice-write-work c = omega (arith, start (c .before .before) .pre .work .room, c .before .before .place .ensures .inside)
 
 returns : tie.Need-returns
 returns c =
-    let s = c .before .before .before .before in
+    let s = start (c .before .before) in
+    let n = s .args .n in
     let w = s .args .work .now in
-    let e = c .before .before .place .ensures in
-    let l : place (s .args .n) (row (s .args .n) (s .args .m)) < length w = omega (arith, e .0, e .1, s .pre .0 .room) in
-    rw (e .0) (adds-store (s .args .p) (s .args .n) w _ (s .args .c .0) _ (s .pre .0 .residues) l (s .pre .1) (rw (e .0) at (c .add .ensures .0)))
+    let e = c .before .before .place .ensures .value in
+    let inside : place n (row n (s .args .m)) < length w = omega (arith, c .before .before .place .ensures .inside, s .pre .work .room) in
+    rw e (adds-store (s .args .p) n w _ (s .args .c .0) _ (s .pre .work .residues) inside (s .pre .residue) (rw e at (c .add .ensures .0)))
 
 pub add-term-spec : {M : Type 1} → statement M
 add-term-spec =
     tie.close
     (tie.spec
     place-requires
-    mul-t8
+    (λ c. search needs)
     slice-read-t10
     add-requires
-    mul-work
+    (λ c. search needs)
     slice-write-work
-    same-length
+    (λ c. search needs)
     returns)

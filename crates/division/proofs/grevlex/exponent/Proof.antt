@@ -1,23 +1,16 @@
 -- `exponent` meets its contract.
 use mathlib.Core.Path.{sym, _∙_}
+use borrow.Author.Needs.{needs}
 use Rattle.monomial.specs.Represented.{row}
 use Rattle.monomial.proofs.Places.{exponent-row}
-use borrow.Author.Needs.{needs}
 use Rattle.division.proofs.grevlex.exponent.Statement.{statement}
 use Rattle.division.proofs.grevlex.exponent.Tie as tie
 
-element-copy-out-number : tie.Need-element-copy-out-number
-element-copy-out-number c = search needs
-
-number-requires : tie.Need-number-requires
-number-requires c κs = search needs
-
 returns : tie.Need-returns
 unfolding row
-returns c = (
-  λ n h. c .number .ensures .0 ∙ sym (exponent-row n (c .before .before .args .i) (c .before .before .args .t1 .e) h),
-  c .number .ensures .1,
-)
+returns c =
+    let (value, small) = c .entry .ensures in
+    record { value = λ n h. value ∙ sym (exponent-row n (c .before .before .args .i) (c .before .before .args .t1 .e) h); small = small }
 
 pub exponent-spec : {M : Type 1} → statement M
-exponent-spec = tie.close (tie.spec element-copy-out-number number-requires returns)
+exponent-spec = tie.close (tie.spec (λ c. search needs) (λ c κs. search needs) returns)

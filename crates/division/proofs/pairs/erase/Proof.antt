@@ -1,29 +1,23 @@
 -- `erase` meets its contract. The loop's invariant: the first i entries are zero.
-use Prim.Native.Nat.{_-_}
+use mathlib.Core.Path.{_≡_, refl}
+use mathlib.Core.Logic.{by-cases}
+use Prim.Native.Nat.{_≤_, _-_}
+use native.Mathlib.Decide.{decLt}
 use native.Mathlib.Omega.{arith}
 use borrow.Author.Needs.{needs}
-use lib.ListN.{length, length-set}
-use Rattle.division.proofs.ErasedArrays.{Erased, erased-start, erased-turn, erased-stop}
+use lib.ListN.{length, length-set, List·getD-eq-default}
+use Rattle.lists.proofs.Storing.{FilledTo, stored-none, stored-more}
 use Rattle.division.proofs.pairs.erase.Statement.{statement}
 use Rattle.division.proofs.pairs.erase.Tie as tie
 
 abbrev Inv-loop : tie.InvT-loop
-Inv-loop work₀ i₀ work i = Erased work₀ work i
+Inv-loop work₀ i₀ work i = (i ≤ length work) × FilledTo (λ k x. x ≡ 0) 0 work₀ work i
 
 abbrev μ-loop : tie.MeasureT-loop
 μ-loop work₀ i₀ work i = length work - i
 
 loop-holds : tie.Need-loop-holds Inv-loop μ-loop
-loop-holds c = erased-start _
-
-mul-work : tie.Need-mul-work Inv-loop μ-loop
-mul-work c = search needs
-
-slice-write-work : tie.Need-slice-write-work Inv-loop μ-loop
-slice-write-work c = omega arith
-
-add-i : tie.Need-add-i Inv-loop μ-loop
-add-i c = omega arith
+loop-holds c = (omega arith, stored-none _ _ _)
 
 loop-less : tie.Need-loop-less Inv-loop μ-loop
 loop-less c =
@@ -31,13 +25,21 @@ loop-less c =
     omega (arith, length-set (s .work) (s .i) 0)
 
 loop-again : tie.Need-loop-again Inv-loop μ-loop
-loop-again c = erased-turn (c .before .loop .inv) (omega arith)
+loop-again c =
+    let s = c .before .loop in
+    let (within, filled) = s .inv in
+    (omega (arith, length-set (s .work) (s .i) 0), stored-more _ _ _ _ _ _ filled (omega (arith, filled .size)) refl)
 
 same-length : tie.Need-same-length Inv-loop μ-loop
-same-length c = c .before .loop .inv .size
+same-length c =
+    let (within, filled) = c .before .loop .inv in
+    filled .size
 
 returns : tie.Need-returns Inv-loop μ-loop
-returns c = (c .before .loop .inv .size, erased-stop (c .before .loop .inv) (omega arith))
+returns c =
+    let s = c .before .loop in
+    let (within, filled) = s .inv in
+    (filled .size, λ k. by-cases (decLt k (s .i)) (filled .stored k) (λ h. List·getD-eq-default (s .work) 0 {n = k} (omega arith)))
 
 pub erase-spec : {M : Type 1} → statement M
 erase-spec =
@@ -46,9 +48,9 @@ erase-spec =
     Inv-loop
     μ-loop
     loop-holds
-    mul-work
-    slice-write-work
-    add-i
+    (λ c. search needs)
+    (λ c. omega arith)
+    (λ c. omega arith)
     loop-less
     loop-again
     same-length

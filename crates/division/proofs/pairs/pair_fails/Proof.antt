@@ -1,46 +1,46 @@
 -- `pair_fails` meets its contract.
 use native.Mathlib.Omega.{arith}
 use borrow.Author.Needs.{needs}
-use Rattle.reduction.proofs.HeldBasis.{held-filled}
-use Rattle.division.proofs.AddedTerms.{adds-work}
-use Rattle.division.proofs.PairDivision.{pair-zero-from, pair-says}
+use Rattle.staircase.proofs.StoredBasis.{held-filled}
+use Rattle.division.proofs.PairDivision.{pair-of, pair-dividend, pair-says}
 use Rattle.division.proofs.pairs.pair_fails.Statement.{statement}
 use Rattle.division.proofs.pairs.pair_fails.Tie as tie
 
+abbrev start : tie.After-shared-slice-known3 → tie.Start
+start c = c .before .before .before .before
+
+-- The pair is loaded.
+abbrev loaded : tie.After-sweep-arg → tie.After-load-pair
+loaded c = c .before .before .before
+
 lead-lcm-requires : tie.Need-lead-lcm-requires
 lead-lcm-requires c κs =
-    let s = c .before .before .before .before in
-    (s .pre .0 .exponents, s .pre .1 .variables .1, omega (arith, s .pre .1 .few, s .pre .5), omega (arith, s .pre .1 .few, s .pre .6))
+    let (stored, left, right) = start c .pre in
+    let pairs = stored .basis in
+    let few = pairs .pairs .sound .few in
+    (stored .arrays .exponents, pairs .work .variables .most, omega (arith, few, left), omega (arith, few, right))
 
 load-pair-requires : tie.Need-load-pair-requires
 load-pair-requires c κs =
-    let s = c .before .before .before .before .before .before in
-    let e = c .before .lead-lcm .ensures _ _ in
-    (s .pre .0, s .pre .1, s .pre .3, s .pre .5, s .pre .6, e, rw e (s .pre .2 _ _ (s .pre .5) (s .pre .6)))
+    let (stored, left, right) = start (c .before .before) .pre in
+    record { arrays = stored .arrays; basis = pair-of (stored .basis) left right (c .before .lead-lcm .ensures _ _) }
 
 sweep-requires : tie.Need-sweep-requires
 sweep-requires c κs =
-    let t = c .before .before .before in
-    let s = t .before .before .before .before .before .before .before in
-    let e = t .before .before .lead-lcm .ensures _ _ in
-    let f = held-filled _ _ _ _ (s .pre .1) in (
-      s .pre .0,
-      s .pre .1,
-      adds-work _ _ (s .pre .3) (t .load-pair .ensures),
-      rw e (s .pre .2 _ _ (s .pre .5) (s .pre .6)),
-      rw e (pair-zero-from _ (s .pre .1) f _ _ (s .pre .5) (s .pre .6) _ _ (s .pre .3 .modulus .0) (s .pre .4) (t .load-pair .ensures)),
-    )
-
-same-length : tie.Need-same-length
-same-length c = search needs
+    let x = loaded c in
+    let l = x .before .before in
+    let (stored, left, right) = start (l .before) .pre in
+    let filled = held-filled _ _ _ _ (stored .basis .pairs .sound) in
+    let pair = pair-of (stored .basis) left right (l .lead-lcm .ensures _ _) in
+    record { arrays = stored .arrays; basis = pair-dividend pair filled (stored .basis .zero) (x .load-pair .ensures) }
 
 returns : tie.Need-returns
 returns c =
-    let x = c .before .before in
-    let t = x .before .before .before .before in
-    let s = t .before .before .before .before .before .before .before in
-    pair-says _ (s .pre .1) (held-filled _ _ _ _ (s .pre .1)) _ _ (s .pre .5) (s .pre .6) _ _ _ _ (s .pre .4) (t .load-pair .ensures) (x .sweep .ensures)
+    let y = c .before .before in
+    let x = loaded (y .before) in
+    let (stored, left, right) = start (x .before .before .before) .pre in
+    let sound = stored .basis .pairs .sound in
+    pair-says _ sound (held-filled _ _ _ _ sound) _ _ left right _ _ (stored .basis .zero) (x .load-pair .ensures) _ (y .sweep .ensures)
 
 pub pair-fails-spec : {M : Type 1} → statement M
-pair-fails-spec =
-    tie.close (tie.spec lead-lcm-requires load-pair-requires sweep-requires same-length returns)
+pair-fails-spec = tie.close (tie.spec lead-lcm-requires load-pair-requires sweep-requires (λ c. search needs) returns)

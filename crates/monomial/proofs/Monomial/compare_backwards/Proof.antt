@@ -5,7 +5,7 @@ use mathlib.Core.Logic.{⊎-elim}
 use native.Mathlib.Omega.{arith}
 use Rattle.monomial.specs.Orders.{lex, backwards}
 use Rattle.monomial.specs.Represented.{row}
-use Rattle.monomial.proofs.FirstVariable.{lex-tie, lex-decided, backwards-cons}
+use Rattle.monomial.proofs.LexSteps.{lex-tie, lex-decided, backwards-cons}
 use Rattle.monomial.proofs.Monomial.compare_backwards.Statement.{statement}
 use Rattle.monomial.proofs.Monomial.compare_backwards.Tie as tie
 
@@ -19,30 +19,21 @@ abbrev μ-loop : tie.MeasureT-loop
 loop-holds : tie.Need-loop-holds Inv-loop μ-loop
 loop-holds c = (omega arith, refl)
 
-sub-i : tie.Need-sub-i Inv-loop μ-loop
-sub-i c = omega arith
-
-compare-at-requires : tie.Need-compare-at-requires Inv-loop μ-loop
-compare-at-requires c κs = omega arith
-
 enum-told : tie.Need-enum-told Inv-loop μ-loop
 enum-told c = c .match .keys1
 
-loop-less : tie.Need-loop-less Inv-loop μ-loop
-loop-less c = omega arith
+abbrev turn : tie.After-compare-at Inv-loop μ-loop → tie.At-loop Inv-loop μ-loop
+turn c = c .before .before
 
 loop-again : tie.Need-loop-again Inv-loop μ-loop
 loop-again c =
-    let s = c .before .before .before .before in (
-      omega arith,
-      lex-tie _ _ _ (backwards-cons (s .loop .i) (omega arith)) (s .loop .inv .1)
-          (c .before .before .compare-at .ensures _ (omega arith))
-          (c .enum-told .given .1),
-    )
+    let x = c .before .before in
+    let s = turn x in
+    (omega arith, lex-tie _ _ _ (backwards-cons (s .loop .i) (omega arith)) (s .loop .inv .1) (x .compare-at .ensures _ (omega arith)) (c .enum-told .given .1))
 
 returns : tie.Need-returns Inv-loop μ-loop
 returns c =
-    let s = c .before .before .before in
+    let s = turn (c .before) in
     lex-decided _ _ _ (backwards-cons (s .loop .i) (omega arith)) (s .loop .inv .1)
     (c .before .compare-at .ensures _ (omega arith))
     (λ q. ⊎-elim (λ e. omega arith) (λ e. omega arith) (rw q at (c .match .keys2)))
@@ -60,10 +51,10 @@ compare-backwards-spec =
     Inv-loop
     μ-loop
     loop-holds
-    sub-i
-    compare-at-requires
+    (λ c. omega arith)
+    (λ c κs. omega arith)
     enum-told
-    loop-less
+    (λ c. omega arith)
     loop-again
     returns
     returns-2)

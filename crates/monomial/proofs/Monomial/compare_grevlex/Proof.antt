@@ -7,20 +7,11 @@ use Rattle.monomial.proofs.GrevlexOrder.{grevlex-less, grevlex-greater,
 use Rattle.monomial.proofs.Monomial.compare_grevlex.Statement.{statement}
 use Rattle.monomial.proofs.Monomial.compare_grevlex.Tie as tie
 
-degree-requires : tie.Need-degree-requires
-degree-requires c κs = search needs
-
-degree-requires-2 : tie.Need-degree-requires-2
-degree-requires-2 c κs = search needs
-
 returns : tie.Need-returns
 returns c = sym (grevlex-less _ _ _ .1 (inl (omega arith)))
 
 returns-2 : tie.Need-returns-2
 returns-2 c = sym (grevlex-greater _ _ _ .1 (inl (omega arith)))
-
-compare-backwards-requires : tie.Need-compare-backwards-requires
-compare-backwards-requires c κs = search needs
 
 returns-3 : tie.Need-returns-3
 returns-3 c = c .compare-backwards .ensures ∙ sym (grevlex-tie _ _ _ (omega arith))
@@ -29,9 +20,9 @@ pub compare-grevlex-spec : {M : Type 1} → statement M
 compare-grevlex-spec =
     tie.close
     (tie.spec
-    degree-requires
-    degree-requires-2
+    (λ c κs. search needs)
+    (λ c κs. search needs)
     returns
     returns-2
-    compare-backwards-requires
+    (λ c κs. search needs)
     returns-3)

@@ -2,9 +2,8 @@
 use Prim.Native.Nat.{_≤_, _+_, _-_, _*_}
 use mathlib.Core.Path.{_≡_}
 use native.Mathlib.Omega.{arith}
-use Rattle.monomial.specs.Sizes.{most-entry}
 use Rattle.monomial.specs.Rows.{degree}
-use Rattle.monomial.specs.Represented.{row}
+use Rattle.monomial.specs.Represented.{row, most-entry}
 use Rattle.monomial.proofs.Places.{degree-more}
 use Rattle.monomial.proofs.Monomial.degree.Statement.{statement}
 use Rattle.monomial.proofs.Monomial.degree.Tie as tie
@@ -18,21 +17,6 @@ abbrev μ-loop : tie.MeasureT-loop
 loop-holds : tie.Need-loop-holds Inv-loop μ-loop
 unfolding degree
 loop-holds c = omega arith
-
-exponent-requires : tie.Need-exponent-requires Inv-loop μ-loop
-exponent-requires c κs = omega arith
-
-cast-d : tie.Need-cast-d Inv-loop μ-loop
-cast-d c = omega arith
-
-add-d : tie.Need-add-d Inv-loop μ-loop
-add-d c = omega arith
-
-add-i : tie.Need-add-i Inv-loop μ-loop
-add-i c = omega arith
-
-loop-less : tie.Need-loop-less Inv-loop μ-loop
-loop-less c = omega arith
 
 loop-again : tie.Need-loop-again Inv-loop μ-loop
 loop-again c =
@@ -53,10 +37,10 @@ degree-spec =
     Inv-loop
     μ-loop
     loop-holds
-    exponent-requires
-    cast-d
-    add-d
-    add-i
-    loop-less
+    (λ c κs. omega arith)
+    (λ c. omega arith)
+    (λ c. omega arith)
+    (λ c. omega arith)
+    (λ c. omega arith)
     loop-again
     returns)

@@ -1,9 +1,8 @@
 -- `Monomial::divides` meets its contract. The loop's invariant: no exponent below place i is larger.
 use Prim.Native.Nat.{ℕ, _≤_, _<_, _-_}
-use mathlib.Core.Path.{sym}
-use mathlib.Core.Bool.{not-eq-not}
 use native.Mathlib.Omega.{arith}
 use borrow.Author.Count.{below-more}
+use Rattle.lists.proofs.Testing.{tested-failed, tested-all, same-answer}
 use Rattle.monomial.specs.Rows.{exponent}
 use Rattle.monomial.specs.Represented.{row}
 use Rattle.monomial.proofs.Products.{divides-at}
@@ -11,46 +10,32 @@ use Rattle.monomial.proofs.Monomial.divides.Statement.{statement}
 use Rattle.monomial.proofs.Monomial.divides.Tie as tie
 
 abbrev Inv-loop : tie.InvT-loop
-Inv-loop self b n i₀ i = (i ≤ n) × ((k : ℕ) → k < i → exponent n (row n self) k ≤ exponent n (row n b) k)
+Inv-loop self other n i₀ i = (i ≤ n) × ((k : ℕ) → k < i → exponent n (row n self) k ≤ exponent n (row n other) k)
 
 abbrev μ-loop : tie.MeasureT-loop
-μ-loop self b n i₀ i = n - i
+μ-loop self other n i₀ i = n - i
 
-loop-holds : tie.Need-loop-holds Inv-loop μ-loop
-loop-holds c = omega arith
+-- Where both exponents of a turn are read, and the turn.
+abbrev read : tie.After-struct-known2 Inv-loop μ-loop → tie.After-exponent2 Inv-loop μ-loop
+read c = c .before .before
 
-exponent-requires : tie.Need-exponent-requires Inv-loop μ-loop
-exponent-requires c κs = omega arith
-
-exponent-requires-2 : tie.Need-exponent-requires-2 Inv-loop μ-loop
-exponent-requires-2 c κs = omega arith
+abbrev turn : tie.After-exponent2 Inv-loop μ-loop → tie.In-loop Inv-loop μ-loop
+turn c = c .before .before
 
 returns : tie.Need-returns Inv-loop μ-loop
 returns c =
-    let s = c .before .before .before .before .before .before in
-    let n = s .before .args .n in
-    let h : s .loop .i < n = omega arith in
-    let p = c .before .before .before .before .exponent .ensures n h in
-    let q = c .before .before .before .exponent2 .ensures n h in
-    sym (not-eq-not .0 (λ e. omega (arith, p, q, divides-at n _ _ .0 e (s .loop .i) h)))
-
-add-i : tie.Need-add-i Inv-loop μ-loop
-add-i c = omega arith
-
-loop-less : tie.Need-loop-less Inv-loop μ-loop
-loop-less c = omega arith
+    let y = read (c .before) in
+    let h = turn y .loop-test .taken in
+    same-answer (tested-failed _ h (λ l. omega (arith, y .before .exponent .ensures _ h, y .exponent2 .ensures _ h))) (divides-at _ _ _)
 
 loop-again : tie.Need-loop-again Inv-loop μ-loop
 loop-again c =
-    let s = c .before .before .before .before .before .before in
-    let n = s .before .args .n in
-    let h : s .loop .i < n = omega arith in
-    let p = c .before .before .before .before .exponent .ensures n h in
-    let q = c .before .before .before .exponent2 .ensures n h in
-    (omega arith, below-more _ _ (s .loop .inv .1) (omega (arith, p, q)))
+    let y = read (c .before) in
+    let h = turn y .loop-test .taken in
+    (omega arith, below-more _ _ (turn y .before .loop .inv .1) (omega (arith, y .before .exponent .ensures _ h, y .exponent2 .ensures _ h)))
 
 returns-2 : tie.Need-returns-2 Inv-loop μ-loop
-returns-2 c = sym (divides-at _ _ _ .1 (λ k h. c .before .loop .inv .1 k (omega arith)))
+returns-2 c = same-answer (tested-all (c .before .loop .i) (omega arith) (c .before .loop .inv .1)) (divides-at _ _ _)
 
 pub divides-spec : {M : Type 1} → statement M
 divides-spec =
@@ -58,11 +43,11 @@ divides-spec =
     (tie.spec
     Inv-loop
     μ-loop
-    loop-holds
-    exponent-requires
-    exponent-requires-2
+    (λ c. omega arith)
+    (λ c κs. omega arith)
+    (λ c κs. omega arith)
     returns
-    add-i
-    loop-less
+    (λ c. omega arith)
+    (λ c. omega arith)
     loop-again
     returns-2)

@@ -6,12 +6,9 @@ use Rattle.monomial.proofs.Places.{exponent-row}
 use Rattle.monomial.proofs.Monomial.exponent.Statement.{statement}
 use Rattle.monomial.proofs.Monomial.exponent.Tie as tie
 
-element-copy-out-result : tie.Need-element-copy-out-result
-element-copy-out-result c = search needs
-
 returns : tie.Need-returns
 unfolding row
 returns c n h = sym (exponent-row n (c .before .args .i) (c .before .args .t1 .e) h)
 
 pub exponent-spec : {M : Type 1} → statement M
-exponent-spec = tie.close (tie.spec element-copy-out-result returns)
+exponent-spec = tie.close (tie.spec (λ c. search needs) returns)

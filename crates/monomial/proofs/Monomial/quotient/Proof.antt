@@ -1,63 +1,32 @@
 -- `Monomial::quotient` meets its contract. The loop's invariant: the first i exponents of the quotient are stored.
-use Prim.Native.Nat.{_<_, _≤_, _-_}
-use mathlib.Core.Path.{_≡_, sym, _∙_, ap, ap₂}
+use Prim.Native.Nat.{_-_}
 use native.Mathlib.Omega.{arith}
 use borrow.Author.Needs.{needs}
-use Rattle.monomial.specs.Rows.{quotient}
+use Rattle.monomial.specs.Quotients.{quotient}
 use Rattle.monomial.specs.Represented.{row}
 use Rattle.monomial.proofs.Products.{exponent-quotient}
-use Rattle.monomial.proofs.Filling.{filled, filled-none, filled-more, filled-all}
+use Rattle.monomial.proofs.Filling.{Pointwise, pointwise-none, pointwise-more, pointwise-all}
 use Rattle.monomial.proofs.Monomial.quotient.Statement.{statement}
 use Rattle.monomial.proofs.Monomial.quotient.Tie as tie
 
 abbrev Inv-loop : tie.InvT-loop
-Inv-loop self b n m₀ i₀ m i = (i ≤ n) × (m .e ≡ filled n (quotient n (row n self) (row n b)) i)
+Inv-loop self other n m₀ i₀ m i = Pointwise _-_ self other n (quotient n (row n self) (row n other)) (m .e) i
 
 abbrev μ-loop : tie.MeasureT-loop
-μ-loop self b n m₀ i₀ m i = n - i
+μ-loop self other n m₀ i₀ m i = n - i
 
-one-requires : tie.Need-one-requires Inv-loop μ-loop
-one-requires c κs = search needs
-
-loop-holds : tie.Need-loop-holds Inv-loop μ-loop
-loop-holds c = (omega arith, ap (λ m. m .e) (c .one .ensures) ∙ filled-none _ _)
-
-exponent-requires : tie.Need-exponent-requires Inv-loop μ-loop
-exponent-requires c κs = omega arith
-
-exponent-requires-2 : tie.Need-exponent-requires-2 Inv-loop μ-loop
-exponent-requires-2 c κs = omega arith
-
-minus-requires : tie.Need-minus-requires Inv-loop μ-loop
-minus-requires c κs =
+sub-requires : tie.Need-sub-requires Inv-loop μ-loop
+sub-requires c κs =
     let s = c .before .before .before in
-    let n = s .before .before .args .n in
-    let h : s .loop .i < n = omega arith in
-    let p = c .before .exponent .ensures n h in
-    let q = c .exponent2 .ensures n h in
-    omega (arith, p, q, s .before .before .pre .1 (s .loop .i) h)
-
-element-set-from-m : tie.Need-element-set-from-m Inv-loop μ-loop
-element-set-from-m c = search needs
-
-add-i : tie.Need-add-i Inv-loop μ-loop
-add-i c = omega arith
-
-loop-less : tie.Need-loop-less Inv-loop μ-loop
-loop-less c = omega arith
+    let h = c .before .before .loop-test .taken in
+    omega (arith, c .before .exponent .ensures _ h, c .exponent2 .ensures _ h, s .before .before .pre .1 (s .loop .i) h)
 
 loop-again : tie.Need-loop-again Inv-loop μ-loop
 loop-again c =
-    let s = c .before .before .before .before in
-    let n = s .before .before .args .n in
-    let h : s .loop .i < n = omega arith in
-    let p = c .before .before .exponent .ensures n h in
-    let q = c .before .exponent2 .ensures n h in
-    let e = c .minus .ensures ∙ ap₂ _-_ p q ∙ sym (exponent-quotient n _ _ (s .loop .i)) in
-    (omega arith, filled-more n (s .loop .i) _ _ h (omega arith) (s .loop .inv .1) e)
-
-returns : tie.Need-returns Inv-loop μ-loop
-returns c = filled-all _ (c .before .loop .i) _ (omega arith) (omega arith) (c .before .loop .inv .1)
+    let y = c .before in
+    let s = y .before .before .before in
+    let h = y .before .before .loop-test .taken in
+    pointwise-more (omega arith) (s .loop .inv) h (y .before .exponent .ensures) (y .exponent2 .ensures) (c .sub .ensures)
 
 pub quotient-spec : {M : Type 1} → statement M
 quotient-spec =
@@ -65,13 +34,13 @@ quotient-spec =
     (tie.spec
     Inv-loop
     μ-loop
-    one-requires
-    loop-holds
-    exponent-requires
-    exponent-requires-2
-    minus-requires
-    element-set-from-m
-    add-i
-    loop-less
+    (λ c κs. search needs)
+    (λ c. pointwise-none (exponent-quotient _ _ _) (c .one .ensures))
+    (λ c κs. omega arith)
+    (λ c κs. omega arith)
+    sub-requires
+    (λ c. search needs)
+    (λ c. omega arith)
+    (λ c. omega arith)
     loop-again
-    returns)
+    (λ c. pointwise-all (c .before .loop .inv) (c .loop-test .left)))

@@ -1,11 +1,11 @@
 -- `commute` meets its contract. The loop's invariant: no test below j failed.
 use Prim.Native.Nat.{ℕ, _-_, _≤_, _<_}
 use borrow.Author.Count.{below-more}
-use Rattle.multiplication.specs.Rows.{tablesOf, CommuteAt}
-use Rattle.multiplication.proofs.Testing.{tested-failed, tested-all, refuted, confirmed}
 use mathlib.Core.Logic.{Iff·trans}
-use Rattle.multiplication.proofs.CommutingRows.{all-commute}
 use native.Mathlib.Omega.{arith}
+use Rattle.lists.proofs.Testing.{tested-failed, tested-all, refuted, confirmed}
+use Rattle.multiplication.specs.Rows.{tablesOf, CommuteAt}
+use Rattle.multiplication.proofs.CommutingRows.{all-commute}
 use Rattle.multiplication.proofs.commute.commute.Statement.{statement}
 use Rattle.multiplication.proofs.commute.commute.Tie as tie
 
@@ -20,19 +20,13 @@ loop-holds c = (omega arith, λ h k l. absurd (omega arith))
 
 commute-before-requires : tie.Need-commute-before-requires Inv-loop μ-loop
 commute-before-requires c κs =
-    let (e, n, d, o, m, b) = c .before .before .before .pre in
-    (e, omega arith, d, o, m, b)
+    let (modulus, cells, n, d) = c .before .before .before .pre in
+    (modulus, cells, omega arith, d)
 
 returns : tie.Need-returns Inv-loop μ-loop
 returns c = λ h.
     let s = c .before .before .before in
     Iff·trans (tested-failed (s .loop .j) (c .before .before .loop-test .taken) (refuted _ (c .before .commute-before .ensures h) (c .if1 .taken))) (all-commute _ h _ _ _)
-
-add-j : tie.Need-add-j Inv-loop μ-loop
-add-j c = omega arith
-
-loop-less : tie.Need-loop-less Inv-loop μ-loop
-loop-less c = omega arith
 
 loop-again : tie.Need-loop-again Inv-loop μ-loop
 loop-again c =
@@ -51,7 +45,7 @@ commute-spec =
     loop-holds
     commute-before-requires
     returns
-    add-j
-    loop-less
+    (λ c. omega arith)
+    (λ c. omega arith)
     loop-again
     returns-2)

@@ -1,9 +1,9 @@
 -- `commute_before` meets its contract. The loop's invariant: no test below i failed.
 use Prim.Native.Nat.{ℕ, _-_, _≤_, _<_}
 use borrow.Author.Count.{below-more}
-use Rattle.multiplication.specs.Rows.{tablesOf, CommuteAt}
-use Rattle.multiplication.proofs.Testing.{tested-failed, tested-all, refuted, confirmed}
 use native.Mathlib.Omega.{arith}
+use Rattle.lists.proofs.Testing.{tested-failed, tested-all, refuted, confirmed}
+use Rattle.multiplication.specs.Rows.{tablesOf, CommuteAt}
 use Rattle.multiplication.proofs.commute.commute_before.Statement.{statement}
 use Rattle.multiplication.proofs.commute.commute_before.Tie as tie
 
@@ -18,19 +18,13 @@ loop-holds c = (omega arith, λ h k l. absurd (omega arith))
 
 commute-pair-requires : tie.Need-commute-pair-requires Inv-loop μ-loop
 commute-pair-requires c κs =
-    let (e, j, d, o, m, b) = c .before .before .before .pre in
-    (e, omega arith, j, d, o, m, b)
+    let (modulus, cells, j, d) = c .before .before .before .pre in
+    (modulus, cells, omega arith, j, d)
 
 returns : tie.Need-returns Inv-loop μ-loop
 returns c = λ h.
     let s = c .before .before .before in
     tested-failed (s .loop .i) (c .before .before .loop-test .taken) (refuted _ (c .before .commute-pair .ensures h) (c .if1 .taken))
-
-add-i : tie.Need-add-i Inv-loop μ-loop
-add-i c = omega arith
-
-loop-less : tie.Need-loop-less Inv-loop μ-loop
-loop-less c = omega arith
 
 loop-again : tie.Need-loop-again Inv-loop μ-loop
 loop-again c =
@@ -49,7 +43,7 @@ commute-before-spec =
     loop-holds
     commute-pair-requires
     returns
-    add-i
-    loop-less
+    (λ c. omega arith)
+    (λ c. omega arith)
     loop-again
     returns-2)

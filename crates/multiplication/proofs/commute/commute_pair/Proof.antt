@@ -1,9 +1,9 @@
 -- `commute_pair` meets its contract. The loop's invariant: no test below s failed.
 use Prim.Native.Nat.{ℕ, _-_, _≤_, _<_}
 use borrow.Author.Count.{below-more}
-use Rattle.multiplication.specs.Rows.{tablesOf, CommuteAt}
-use Rattle.multiplication.proofs.Testing.{tested-failed, tested-all, refuted, confirmed}
 use native.Mathlib.Omega.{arith}
+use Rattle.lists.proofs.Testing.{tested-failed, tested-all, refuted, confirmed}
+use Rattle.multiplication.specs.Rows.{tablesOf, CommuteAt}
 use Rattle.multiplication.proofs.commute.commute_pair.Statement.{statement}
 use Rattle.multiplication.proofs.commute.commute_pair.Tie as tie
 
@@ -18,19 +18,13 @@ loop-holds c = (omega arith, λ h k l. absurd (omega arith))
 
 commute-at-requires : tie.Need-commute-at-requires Inv-loop μ-loop
 commute-at-requires c κs =
-    let (e, i, j, d, o, m, b) = c .before .before .before .pre in
-    (e, i, j, c .loop-test .taken, d, o, m, b)
+    let (modulus, cells, i, j, d) = c .before .before .before .pre in
+    (modulus, cells, i, j, d, c .loop-test .taken)
 
 returns : tie.Need-returns Inv-loop μ-loop
 returns c = λ h.
     let s = c .before .before .before in
     tested-failed (s .loop .s) (c .before .before .loop-test .taken) (refuted _ (c .before .commute-at .ensures h) (c .if1 .taken))
-
-add-s : tie.Need-add-s Inv-loop μ-loop
-add-s c = omega arith
-
-loop-less : tie.Need-loop-less Inv-loop μ-loop
-loop-less c = omega arith
 
 loop-again : tie.Need-loop-again Inv-loop μ-loop
 loop-again c =
@@ -49,7 +43,7 @@ commute-pair-spec =
     loop-holds
     commute-at-requires
     returns
-    add-s
-    loop-less
+    (λ c. omega arith)
+    (λ c. omega arith)
     loop-again
     returns-2)

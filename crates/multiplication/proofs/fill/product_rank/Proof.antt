@@ -5,12 +5,6 @@ use borrow.Author.Needs.{needs}
 use Rattle.multiplication.proofs.fill.product_rank.Statement.{statement}
 use Rattle.multiplication.proofs.fill.product_rank.Tie as tie
 
-mul-result : tie.Need-mul-result
-mul-result c = search needs
-
-shared-slice-read-result : tie.Need-shared-slice-read-result
-shared-slice-read-result c = search needs
-
 add-result : tie.Need-add-result
 add-result c = omega (arith, c .before .before .pre .1 _ (c .before .if1 .taken))
 
@@ -22,4 +16,4 @@ returns-2 c = record { listed = λ h. absurd (omega (arith, c .if1 .left)); none
 
 pub product-rank-spec : {M : Type 1} → statement M
 product-rank-spec =
-    tie.close (tie.spec mul-result shared-slice-read-result add-result returns returns-2)
+    tie.close (tie.spec (λ c. search needs) (λ c. search needs) add-result returns returns-2)

@@ -2,119 +2,127 @@
 use mathlib.Core.Path.{_≡_}
 use Prim.Native.Nat.{_+_, _<_}
 use lib.ListN.{getD}
-use Rattle.monomial.specs.Rows.{quotient}
-use Rattle.groebner.specs.Variables.{variable}
-use Rattle.multiplication.specs.Ranks.{rankOf}
-use Rattle.multiplication.specs.Listed.{listed, listedAt, Place, Passes}
-use Rattle.multiplication.proofs.RankPlaces.{rank-place}
-use Rattle.multiplication.proofs.RankQuotients.{quotient-short, quotient-rank, variable-least, passes-by}
-use Rattle.multiplication.proofs.RowSums.{row-below}
 use native.Mathlib.Omega.{arith}
 use borrow.Author.Needs.{needs}
+use Rattle.monomial.specs.Sizes.{most-variables}
+use Rattle.monomial.specs.Quotients.{quotient, variable}
+use Rattle.monomial.specs.Ranks.{rankOf}
+use Rattle.lines.specs.Sizes.{most-standard}
+use Rattle.staircase.specs.Listed.{listed, listedAt, Place}
+use Rattle.staircase.proofs.RankedLists.{rank-place}
+use Rattle.multiplication.specs.Passes.{Detour}
+use Rattle.multiplication.proofs.RankQuotients.{quotient-short, quotient-rank, passes-by, some-passes}
+use Rattle.multiplication.proofs.RowSums.{table-row-below}
 use Rattle.multiplication.proofs.fill.product_row.Statement.{statement}
 use Rattle.multiplication.proofs.fill.product_row.Tie as tie
 
 abbrev origin : tie.After-variable-through → tie.Start
 origin c = c .before .before .before .before .before
 
-passes-at : (c : tie.After-variable-through) → let a = origin c .args in Passes (a .n) (a .l) (listedAt (a .n) (a .l) (a .s)) (a .i) (c .variable-through .result)
+abbrev sought : tie.After-rank-place → tie.After-variable-through
+sought c = c .before .before .before
+
+passes-at : (c : tie.After-variable-through) → let a = origin c .args in Detour (a .n) (a .irreducibles) (listedAt (a .n) (a .irreducibles) (a .place)) (a .i) (c .variable-through .result)
 passes-at c =
     let s = origin c in
-    let (_, _, are, of-variables, listing, _, _, hi, hs, is, _, _) = s .pre in
+    let (_, _, ranked, of, _) = s .pre in
     let (hj, by) = c .variable-through .ensures in
-    passes-by listing (s .args .s) hs of-variables hi is _ hj are .0 (rw (c .before .listed-at .ensures (s .args .n)) at by)
+    passes-by ranked of _ hj .0 (rw (c .before .listed-at .ensures (s .args .n)) at by)
 
 -- The rank of B_s / x_j.
 rank-at : (c : tie.After-variable-through) → let a = origin c .args in let j = c .variable-through .result in
-    rankOf (a .n) (quotient (a .n) (listedAt (a .n) (a .l) (a .s)) (variable (a .n) j)) + getD (a .variables .now) j 0 ≡ getD (a .ranks .now) (a .s) 0
+    rankOf (a .n) (quotient (a .n) (listedAt (a .n) (a .irreducibles) (a .place)) (variable (a .n) j)) + getD (a .variables .now) j 0 ≡ getD (a .ranks .now) (a .place) 0
 rank-at c =
     let s = origin c in
-    let (_, _, are, of-variables, listing, _, _, _, hs, _, _, _) = s .pre in
-    omega (arith, are .rank (s .args .s) hs, of-variables .rank _ (c .variable-through .ensures .0), quotient-rank listing (s .args .s) hs _ (passes-at c .divisor))
+    let (_, _, ranked, of, _) = s .pre in
+    let q = quotient-rank (ranked .listing) (s .args .place) (of .inside) _ (passes-at c .divisor) in
+    omega (arith, q, ranked .ranks .rank (s .args .place) (of .inside), ranked .variables .rank _ (c .variable-through .ensures .0))
 
-place-at : (c : tie.After-rank-place) → let d = c .before .before .before in let a = origin d .args in
-    Place (a .n) (listed (a .n) (a .l)) (a .l .count) (quotient (a .n) (listedAt (a .n) (a .l) (a .s)) (variable (a .n) (d .variable-through .result))) (c .rank-place .result)
+place-at : (c : tie.After-rank-place) → let d = sought c in let a = origin d .args in let l = a .irreducibles in
+    Place (a .n) (listed (a .n) l) (l .count) (quotient (a .n) (listedAt (a .n) l (a .place)) (variable (a .n) (d .variable-through .result))) (c .rank-place .result)
 place-at c =
-    let d = c .before .before .before in
+    let d = sought c in
     let s = origin d in
-    let (_, _, are, _, listing, _, _, _, hs, _, _, _) = s .pre in
-    rank-place _ are (omega (arith, rank-at d), quotient-short listing (s .args .s) hs (d .variable-through .result)) (c .rank-place .ensures)
+    let (_, _, ranked, of, _) = s .pre in
+    rank-place _ (ranked .ranks) (omega (arith, rank-at d), quotient-short (ranked .listing) (s .args .place) (of .inside) (d .variable-through .result)) (c .rank-place .ensures)
 
-inside : (c : tie.After-rank-place) → c .rank-place .result < origin (c .before .before .before) .args .l .count
-inside c = let d = c .before .before .before in origin d .pre .10 .inside _ (passes-at d) _ (place-at c)
-
-listed-at-requires : tie.Need-listed-at-requires
-listed-at-requires c κs = search needs
+-- The row of x_i·B_s / x_j has its place among the rows.
+inside : (c : tie.After-rank-place) → let a = origin (sought c) .args in (a .i < most-variables) × (c .rank-place .result < most-standard)
+inside c =
+    let d = sought c in
+    let (_, _, ranked, of, through) = origin d .pre in
+    (omega (arith, of .within, ranked .listing .variables), omega (arith, through .inside _ (passes-at d) _ (place-at c), ranked .listing .few))
 
 variable-through-requires : tie.Need-variable-through-requires
 variable-through-requires c κs =
     let s = c .before .before .before .before in
-    let a = s .args in
-    let (_, _, are, of-variables, listing, _, _, hi, hs, is, through, rising) = s .pre in
-    let (j, hj, p) = through .some in (
-      are .many,
-      of-variables .many,
-      listing .variables,
-      λ k u. rw (c .listed-at .ensures (a .n)) (variable-least listing (a .s) hs of-variables hi is k u),
-      rw (c .listed-at .ensures (a .n)) (j, hj, passes-by listing (a .s) hs of-variables hi is j hj are .1 p),
-      rising,
-    )
-
-mul-rank-place : tie.Need-mul-rank-place
-mul-rank-place c = search needs
+    let (_, _, ranked, of, through) = s .pre in
+    (ranked .ranks .many, ranked .variables .many, ranked .listing .variables, ranked .rising, rw (c .listed-at .ensures (s .args .n)) (some-passes ranked of through))
 
 shared-slice-read-rank-place : tie.Need-shared-slice-read-rank-place
-shared-slice-read-rank-place c = let s = origin (c .before) in omega (arith, s .pre .2 .many, s .pre .8)
+shared-slice-read-rank-place c = let (_, _, ranked, of, _) = origin (c .before) .pre in omega (arith, ranked .ranks .many, of .inside)
 
 mul-rank-place-2 : tie.Need-mul-rank-place-2
-mul-rank-place-2 c = let s = origin (c .before) in omega (arith, s .pre .4 .variables, c .before .variable-through .ensures .0)
+mul-rank-place-2 c = let (_, _, ranked, _, _) = origin (c .before) .pre in omega (arith, ranked .listing .variables, c .before .variable-through .ensures .0)
 
 shared-slice-read-rank-place-2 : tie.Need-shared-slice-read-rank-place-2
-shared-slice-read-rank-place-2 c = let s = origin (c .before .before) in omega (arith, s .pre .3 .many, c .before .before .variable-through .ensures .0)
+shared-slice-read-rank-place-2 c =
+    let d = c .before .before in
+    let (_, _, ranked, _, _) = origin d .pre in
+    omega (arith, ranked .variables .many, d .variable-through .ensures .0)
 
 sub-rank-place : tie.Need-sub-rank-place
 sub-rank-place c = omega (arith, rank-at (c .before .before))
 
 rank-place-requires : tie.Need-rank-place-requires
-rank-place-requires c κs = origin (c .before .before) .pre .2 .many
+rank-place-requires c κs = let (_, _, ranked, _, _) = origin (c .before .before) .pre in ranked .ranks .many
 
-row-of-requires : tie.Need-row-of-requires
-row-of-requires c κs =
-    let (e, _, _, _, l, _, _, i, _, _, _, _) = origin (c .before .before .before) .pre in
-    (e, omega (arith, l .variables), omega (arith, inside c, l .few))
+row-at-requires : tie.Need-row-at-requires
+row-at-requires c κs =
+    let (_, cells, _, _, _) = origin (sought (c .before)) .pre in
+    omega (arith, c .row-start .ensures, cells .size, inside (c .before))
 
-apply-requires : tie.Need-apply-requires
-apply-requires c κs =
-    let d = c .before .before .before .before in
-    let (e, b, _, _, l, o, m, _, _, _, _, _) = origin d .pre in
-    (e, omega (arith, d .variable-through .ensures .0, l .variables), l .few, o, m, b, row-below (c .row-of .ensures) o b)
+times-variable-requires : tie.Need-times-variable-requires
+times-variable-requires c κs =
+    let r = c .before .before in
+    let d = sought r in
+    let (modulus, cells, ranked, _, _) = origin d .pre in
+    let (hi, hs) = inside r in (
+      cells .size,
+      omega (arith, d .variable-through .ensures .0, ranked .listing .variables),
+      ranked .listing .few,
+      omega (arith, modulus .prime .above-one),
+      modulus .size,
+      cells .below,
+      rw (c .row-at .ensures, c .before .row-start .ensures) (table-row-below cells _ _ hi hs),
+    )
 
 returns : tie.Need-returns
 returns c =
-    let v = c .before .before .before .before .before in
+    let r = c .before .before .before in
+    let d = sought r in
     record {
-      by = v .variable-through .result;
-      at = c .before .before .rank-place .result;
-      row = c .before .row-of .result;
-      within = v .variable-through .ensures .0;
-      passes = passes-at v;
-      place = place-at (c .before .before);
-      is = c .before .row-of .ensures;
-      multiplied = c .apply .ensures;
+      by = d .variable-through .result;
+      at = r .rank-place .result;
+      within = d .variable-through .ensures .0;
+      passes = passes-at d;
+      place = place-at r;
+      multiplied = rw (c .before .row-at .ensures, c .before .before .row-start .ensures) at (c .times-variable .ensures);
     }
 
 pub product-row-spec : {M : Type 1} → statement M
 product-row-spec =
     tie.close
     (tie.spec
-    listed-at-requires
+    (λ c κs. search needs)
     variable-through-requires
-    mul-rank-place
+    (λ c. search needs)
     shared-slice-read-rank-place
     mul-rank-place-2
     shared-slice-read-rank-place-2
     sub-rank-place
     rank-place-requires
-    row-of-requires
-    apply-requires
+    (λ c κs. inside c)
+    row-at-requires
+    times-variable-requires
     returns)

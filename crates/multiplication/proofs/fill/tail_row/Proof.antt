@@ -1,13 +1,12 @@
 -- `tail_row` meets its contract. The loop's invariant: the terms from k on are subtracted.
 use mathlib.Core.Path.{_≡_}
-use Prim.Native.Nat.{_-_}
 use lib.ListN.{length}
-use Rattle.tabtext.specs.Sizes.{most-terms}
-use Rattle.reduction.proofs.Elements.{length-mapped}
-use Rattle.multiplication.proofs.RankPlaces.{rank-place}
-use Rattle.multiplication.proofs.TailRows.{Gathered, gathered-none, gathered-small, gathered-place, gathered-more, gathered-all}
 use native.Mathlib.Omega.{arith}
 use borrow.Author.Needs.{needs}
+use Rattle.lists.proofs.Elements.{length-mapped}
+use Rattle.lines.specs.Sizes.{most-terms}
+use Rattle.staircase.proofs.RankedLists.{rank-place}
+use Rattle.multiplication.proofs.TailRows.{Gathered, gathered-none, gathered-small, gathered-place, gathered-more, gathered-all}
 use Rattle.multiplication.proofs.fill.tail_row.Statement.{statement}
 use Rattle.multiplication.proofs.fill.tail_row.Tie as tie
 
@@ -17,17 +16,19 @@ Inv-loop ranks l n p g r₀ k₀ r k = Gathered p n g l r k
 abbrev μ-loop : tie.MeasureT-loop
 μ-loop ranks l n p g r₀ k₀ r k = k
 
-zero-requires : tie.Need-zero-requires Inv-loop μ-loop
-zero-requires c κs = search needs
+-- The places of a turn.
+abbrev origin : tie.At-loop Inv-loop μ-loop → tie.Start Inv-loop μ-loop
+origin c = c .before .before .before
+
+abbrev turn : tie.After-rank Inv-loop μ-loop → tie.In-loop Inv-loop μ-loop
+turn c = c .before .before .before
 
 loop-holds : tie.Need-loop-holds Inv-loop μ-loop
 loop-holds c =
     let s = c .before .before in
     let size : length (s .args .t2 .monomials) ≡ most-terms = search (length-mapped, needs) in
-    gathered-none (omega (arith, s .pre .1 .coefficients 0 (s .pre .1 .some) .1)) (s .pre .1) (omega (arith, s .pre .1 .few)) (c .zero .ensures)
-
-sub-k : tie.Need-sub-k Inv-loop μ-loop
-sub-k c = omega arith
+    let (_, line, _, _, _, _) = s .pre in
+    gathered-none (omega (arith, line .coefficients 0 (line .some) .1)) line (omega (arith, line .few)) (c .zero .ensures)
 
 mul-m : tie.Need-mul-m Inv-loop μ-loop
 mul-m c = omega (arith, gathered-place (c .before .loop .inv) (c .loop-test .taken))
@@ -42,25 +43,24 @@ element-copy-out-c : tie.Need-element-copy-out-c Inv-loop μ-loop
 element-copy-out-c c = gathered-place (c .before .before .loop .inv) (c .before .loop-test .taken)
 
 rank-requires : tie.Need-rank-requires Inv-loop μ-loop
-rank-requires c κs = c .before .before .before .before .before .before .pre .3
+rank-requires c κs = let (_, _, _, n, _, _) = origin (c .before .before .before) .pre in n
 
 rank-place-requires : tie.Need-rank-place-requires Inv-loop μ-loop
-rank-place-requires c κs = c .before .before .before .before .before .before .before .pre .0 .many
+rank-place-requires c κs = let (ranks, _, _, _, _, _) = origin (turn c .before) .pre in ranks .many
 
 subtract-at-requires : tie.Need-subtract-at-requires Inv-loop μ-loop
 subtract-at-requires c κs =
-    let s = c .before .before .before .before in
-    let (_, _, _, _, l, m) = s .before .before .before .before .pre in
-    (s .before .loop .inv .below, gathered-small (s .before .loop .inv) (s .loop-test .taken), m, l)
-
-loop-less : tie.Need-loop-less Inv-loop μ-loop
-loop-less c = omega arith
+    let s = turn (c .before) in
+    let inv = s .before .loop .inv in
+    let (_, _, _, _, l, m) = origin (s .before) .pre in
+    (inv .below, gathered-small inv (s .loop-test .taken), m, l)
 
 loop-again : tie.Need-loop-again Inv-loop μ-loop
 loop-again c =
-    let s = c .before .before .before .before .before in
-    let pre = s .before .before .before .before .pre in
-    gathered-more (s .before .loop .inv) (s .loop-test .taken) (pre .2) (rank-place _ (pre .0) (c .before .before .rank .ensures) (c .before .rank-place .ensures)) (c .subtract-at .ensures)
+    let r = c .before .before in
+    let s = turn r in
+    let (ranks, _, once, _, _, _) = origin (s .before) .pre in
+    gathered-more (s .before .loop .inv) (s .loop-test .taken) once (rank-place _ ranks (r .rank .ensures) (c .before .rank-place .ensures)) (c .subtract-at .ensures)
 
 returns : tie.Need-returns Inv-loop μ-loop
 returns c = gathered-all (c .before .loop .inv) (c .loop-test .left)
@@ -71,9 +71,9 @@ tail-row-spec =
     (tie.spec
     Inv-loop
     μ-loop
-    zero-requires
+    (λ c κs. search needs)
     loop-holds
-    sub-k
+    (λ c. omega arith)
     mul-m
     element-copy-out-m
     mul-c
@@ -81,6 +81,6 @@ tail-row-spec =
     rank-requires
     rank-place-requires
     subtract-at-requires
-    loop-less
+    (λ c. omega arith)
     loop-again
     returns)

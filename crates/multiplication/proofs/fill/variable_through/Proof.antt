@@ -2,12 +2,12 @@
 use mathlib.Core.Path.{_≡_, sym}
 use Prim.Native.Nat.{_-_}
 use lib.ListN.{getD}
+use borrow.Author.Needs.{needs}
 use Rattle.monomial.specs.Rows.{exponent}
 use Rattle.monomial.specs.Represented.{row}
 use Rattle.monomial.proofs.Places.{exponent-row}
 use Rattle.multiplication.specs.Rules.{PassesBy}
 use Rattle.multiplication.proofs.Passing.{Blocked, blocked-none, blocked-more, blocked-all}
-use borrow.Author.Needs.{needs}
 use Rattle.multiplication.proofs.fill.variable_through.Statement.{statement}
 use Rattle.multiplication.proofs.fill.variable_through.Tie as tie
 
@@ -20,15 +20,6 @@ abbrev μ-loop : tie.MeasureT-loop
 loop-holds : tie.Need-loop-holds Inv-loop μ-loop
 loop-holds c = blocked-none
 
-element-copy-out-e : tie.Need-element-copy-out-e Inv-loop μ-loop
-element-copy-out-e c = search needs
-
-mul-passes : tie.Need-mul-passes Inv-loop μ-loop
-mul-passes c = search needs
-
-shared-slice-read-passes : tie.Need-shared-slice-read-passes Inv-loop μ-loop
-shared-slice-read-passes c = search needs
-
 abbrev origin : tie.At-loop Inv-loop μ-loop → tie.Start Inv-loop μ-loop
 origin c = c .before .before .before
 
@@ -37,31 +28,25 @@ is : (c : tie.After-e Inv-loop μ-loop) → let d = c .before .before in let a =
 unfolding row
 is c = sym (exponent-row _ _ _ (c .before .loop-test .taken))
 
-passes-requires : tie.Need-passes-requires Inv-loop μ-loop
-passes-requires c κs =
+is-detour-requires : tie.Need-is-detour-requires Inv-loop μ-loop
+is-detour-requires c κs =
     let e = c .before in
     let d = e .before .before in
-    let (many, _, _, least, _, rising) = origin d .pre in
-    (many, λ p. least _ (e .before .loop-test .taken) (rw (is e) at p), rising)
+    let (many, _, _, rising, passes) = origin d .pre in
+    (many, λ p. passes .least _ (e .before .loop-test .taken) (rw (is e) at p), rising)
 
 returns : tie.Need-returns Inv-loop μ-loop
 returns c =
     let e = c .before .before .before in
-    (e .before .loop-test .taken, rw (is e) at (c .before .passes .ensures .0 (c .if1 .taken)))
-
-add-j : tie.Need-add-j Inv-loop μ-loop
-add-j c = search needs
-
-loop-less : tie.Need-loop-less Inv-loop μ-loop
-loop-less c = search needs
+    (e .before .loop-test .taken, rw (is e) at (c .before .is-detour .ensures .0 (c .if1 .taken)))
 
 loop-again : tie.Need-loop-again Inv-loop μ-loop
 loop-again c =
     let e = c .before .before .before in
-    blocked-more (e .before .before .loop .inv) (e .before .loop-test .taken) (rw (is e) at (c .before .passes .ensures)) (c .if1 .left)
+    blocked-more (e .before .before .loop .inv) (e .before .loop-test .taken) (rw (is e) at (c .before .is-detour .ensures)) (c .if1 .left)
 
 returns-2 : tie.Need-returns-2 Inv-loop μ-loop
-returns-2 c = absurd (blocked-all (c .before .loop .inv) (c .loop-test .left) (origin (c .before) .pre .4))
+returns-2 c = absurd (blocked-all (c .before .loop .inv) (c .loop-test .left) (origin (c .before) .pre .4 .some))
 
 pub variable-through-spec : {M : Type 1} → statement M
 variable-through-spec =
@@ -70,12 +55,12 @@ variable-through-spec =
     Inv-loop
     μ-loop
     loop-holds
-    element-copy-out-e
-    mul-passes
-    shared-slice-read-passes
-    passes-requires
+    (λ c. search needs)
+    (λ c. search needs)
+    (λ c. search needs)
+    is-detour-requires
     returns
-    add-j
-    loop-less
+    (λ c. search needs)
+    (λ c. search needs)
     loop-again
     returns-2)

@@ -4,9 +4,6 @@ use Rattle.residue.proofs.Reductions.{sum-below, sum-above}
 use Rattle.residue.proofs.Residue.add.Statement.{statement}
 use Rattle.residue.proofs.Residue.add.Tie as tie
 
-add-s : tie.Need-add-s
-add-s c = omega arith
-
 returns : tie.Need-returns
 returns c = (sum-below _ _ _ (c .if1 .taken), c .if1 .taken)
 
@@ -16,4 +13,4 @@ returns-2 c =
     (sum-above _ _ _ h k (c .if1 .left), omega arith)
 
 pub add-spec : {M : Type 1} → statement M
-add-spec = tie.close (tie.spec add-s returns returns-2)
+add-spec = tie.close (tie.spec (λ c. omega arith) returns returns-2)

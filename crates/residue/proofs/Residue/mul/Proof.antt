@@ -2,7 +2,7 @@
 use mathlib.Core.Path.{refl}
 use native.Mathlib.Nat.{mod-lt}
 use native.Mathlib.Omega.{arith}
-use Rattle.residue.specs.Modular.{product}
+use Rattle.residue.specs.Modular.{productMod}
 use Rattle.residue.proofs.Bounds.{product-bound}
 use Rattle.residue.proofs.Residue.mul.Statement.{statement}
 use Rattle.residue.proofs.Residue.mul.Tie as tie
@@ -12,12 +12,9 @@ mul-t4 c =
     let d = c .before .before in
     omega (arith, product-bound _ _ _ (d .pre .2) (d .pre .0) (d .pre .1))
 
-rem-t5 : tie.Need-rem-t5
-rem-t5 c = omega arith
-
 returns : tie.Need-returns
-unfolding product
+unfolding productMod
 returns c = (refl, mod-lt _ (omega arith))
 
 pub mul-spec : {M : Type 1} → statement M
-mul-spec = tie.close (tie.spec mul-t4 rem-t5 returns)
+mul-spec = tie.close (tie.spec mul-t4 (λ c. omega arith) returns)

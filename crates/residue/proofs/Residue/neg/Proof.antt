@@ -4,9 +4,6 @@ use Rattle.residue.proofs.Reductions.{negation-zero, negation-above}
 use Rattle.residue.proofs.Residue.neg.Statement.{statement}
 use Rattle.residue.proofs.Residue.neg.Tie as tie
 
-sub-t5 : tie.Need-sub-t5
-sub-t5 c = omega arith
-
 returns : tie.Need-returns
 returns c = (negation-zero _ _ (c .if1 .taken), omega arith)
 
@@ -14,4 +11,4 @@ returns-2 : tie.Need-returns-2
 returns-2 c = (negation-above _ _ (c .before .before .before .pre) (c .before .if1 .left), omega arith)
 
 pub neg-spec : {M : Type 1} → statement M
-neg-spec = tie.close (tie.spec sub-t5 returns returns-2)
+neg-spec = tie.close (tie.spec (λ c. omega arith) returns returns-2)

@@ -5,9 +5,6 @@ use native.Mathlib.Omega.{arith}
 use Rattle.residue.proofs.Residue.of.Statement.{statement}
 use Rattle.residue.proofs.Residue.of.Tie as tie
 
-rem-t4 : tie.Need-rem-t4
-rem-t4 c = omega arith
-
 cast-t5 : tie.Need-cast-t5
 cast-t5 c = omega (arith, mod-lt (c .args .number) (c .pre))
 
@@ -15,4 +12,4 @@ returns : tie.Need-returns
 returns c = (refl, mod-lt _ (c .pre))
 
 pub of-spec : {M : Type 1} → statement M
-of-spec = tie.close (tie.spec rem-t4 cast-t5 returns)
+of-spec = tie.close (tie.spec (λ c. omega arith) cast-t5 returns)

@@ -20,9 +20,6 @@ abbrev μ-loop : tie.MeasureT-loop
 refused : {p : ℕ} → ¬ Modulus p → (false ≡ true) ↔ Modulus p
 refused n = (λ e. absurd (false≢true e), λ m. absurd (n m))
 
-cast-if2 : tie.Need-cast-if2 Inv-loop μ-loop
-cast-if2 c = omega arith
-
 returns : tie.Need-returns Inv-loop μ-loop
 returns c = refused λ m. ⊎-elim (λ w. omega arith) (λ w. omega (arith, ltb-true)) (c .if1 .came)
 
@@ -32,14 +29,8 @@ loop-holds c = undivided-start _ (c .before .if1 .left) (ltb-false _ _ (c .if2 .
 mul-loop : tie.Need-mul-loop Inv-loop μ-loop
 mul-loop c = omega (arith, undivided-fits _ _ (c .loop .inv))
 
-rem-if3 : tie.Need-rem-if3 Inv-loop μ-loop
-rem-if3 c = omega arith
-
 returns-2 : tie.Need-returns-2 Inv-loop μ-loop
 returns-2 c = refused (undivided-found _ _ (c .before .before .loop .inv) (omega arith) (c .if3 .taken))
-
-add-d : tie.Need-add-d Inv-loop μ-loop
-add-d c = omega arith
 
 loop-less : tie.Need-loop-less Inv-loop μ-loop
 loop-less c = omega (arith, undivided-less _ _ (c .before .before .loop .inv) (omega arith))
@@ -56,13 +47,13 @@ is-modulus-spec =
     (tie.spec
     Inv-loop
     μ-loop
-    cast-if2
+    (λ c. omega arith)
     returns
     loop-holds
     mul-loop
-    rem-if3
+    (λ c. omega arith)
     returns-2
-    add-d
+    (λ c. omega arith)
     loop-less
     loop-again
     returns-3)

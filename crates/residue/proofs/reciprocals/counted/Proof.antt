@@ -21,17 +21,11 @@ loop-holds c =
     let (m, h, k, n) = c .before .pre in
     rw (c .mul .ensures .0) (counting-start _ _ (m .prime) h k n)
 
-add-b : tie.Need-add-b Inv-loop μ-loop
-add-b c = omega arith
-
 add-requires : tie.Need-add-requires Inv-loop μ-loop
 add-requires c κs =
     let d = c .before .before in
     let (m, _, k, _) = d .before .before .pre in
     (counting-below _ _ _ _ (d .loop .inv), k, m .size)
-
-loop-less : tie.Need-loop-less Inv-loop μ-loop
-loop-less c = omega arith
 
 loop-again : tie.Need-loop-again Inv-loop μ-loop
 loop-again c =
@@ -44,4 +38,4 @@ returns c =
 
 pub counted-spec : {M : Type 1} → statement M
 counted-spec =
-    tie.close (tie.spec Inv-loop μ-loop mul-requires loop-holds add-b add-requires loop-less loop-again returns)
+    tie.close (tie.spec Inv-loop μ-loop mul-requires loop-holds (λ c. omega arith) add-requires (λ c. omega arith) loop-again returns)

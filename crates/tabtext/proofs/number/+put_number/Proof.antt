@@ -6,7 +6,7 @@ use borrow.Author.Needs.{needs}
 use borrow.Fn.Kinds.{In}
 use borrow.Fn.PlainCycle.{Measures, is, falls, and}
 use native.Mathlib.Omega.{arith}
-use Rattle.tabtext.specs.Text.{number}
+use Rattle.tabtext.specs.Text.{decimal}
 use Rattle.tabtext.proofs.Decimal.{number-digit, number-more, width-1, width-more}
 use Rattle.tabtext.proofs.Writing.{Left, left-all, left-less, left-byte, left-none}
 use Rattle.tabtext.proofs.number.put_number.Reads as reads
@@ -25,20 +25,11 @@ abbrev claims : ℕ → lts.Claims
 claims t = (and 1 kinds.ps (falls 1 kinds.ps _<_ μ t) reads.Pre, reads.Post)
 
 module _ (t : ℕ) where
-  cast-out : lts.Need-cast-out (claims t) (at t) reads.Post
-  cast-out c = search needs
-
-  add-out : lts.Need-add-out (claims t) (at t) reads.Post
-  add-out c = search needs
-
   slice-write-out : lts.Need-slice-write-out (claims t) (at t) reads.Post
   slice-write-out c = omega (arith, width-1 (c .before .before .args .v) (c .if1 .taken))
 
   add-result : lts.Need-add-result (claims t) (at t) reads.Post
   add-result c = omega (arith, width-1 (c .before .before .args .v) (c .if1 .taken))
-
-  same-length : lts.Need-same-length (claims t) (at t) reads.Post
-  same-length c = search needs
 
   returns : lts.Need-returns (claims t) (at t) reads.Post
   returns c = left-none refl (left-byte _ [] (number-digit _ (c .if1 .taken)) (left-all refl (c .before .before .pre .1)))
@@ -47,29 +38,23 @@ module _ (t : ℕ) where
   put-number-requires c κs =
       (omega arith, omega (arith, width-more (c .before .before .before .args .v) (c .before .if1 .left)))
 
+  abbrev entry : lts.After-slice-known2 (claims t) (at t) reads.Post → lts.Start (claims t) (at t) reads.Post
+  entry c = c .before .before .before .before .before .before
+
   -- What is left after the number's tenth: its last digit.
   last : (c : lts.After-slice-known2 (claims t) (at t) reads.Post) →
-      let s = c .before .before .before .before .before .before .args in
       let p = c .before .before .put-number in
-      Left (s .out .now) (s .at) (number (s .v)) ((48 + s .v % 10) ∷ []) (p .last .0) (p .result)
+      let s = entry c .args in
+      Left (s .out .now) (s .at) (decimal (s .v)) ((48 + s .v % 10) ∷ []) (p .last .0) (p .result)
   last c =
-      let s = c .before .before .before .before in
-      left-less _ _ (number-more _ (s .if1 .left)) (left-all refl (s .before .before .pre .1)) (c .before .before .put-number .ensures)
-
-  cast-out-2 : lts.Need-cast-out-2 (claims t) (at t) reads.Post
-  cast-out-2 c = search needs
-
-  add-out-2 : lts.Need-add-out-2 (claims t) (at t) reads.Post
-  add-out-2 c = search needs
+      let p = c .before .before in
+      left-less _ _ (number-more _ (p .before .before .if1 .left)) (left-all refl (entry c .pre .1)) (p .put-number .ensures)
 
   slice-write-out-2 : lts.Need-slice-write-out-2 (claims t) (at t) reads.Post
   slice-write-out-2 c = omega (arith, last c)
 
   add-result-2 : lts.Need-add-result-2 (claims t) (at t) reads.Post
   add-result-2 c = omega (arith, last c)
-
-  same-length-2 : lts.Need-same-length-2 (claims t) (at t) reads.Post
-  same-length-2 c = search needs
 
   returns-2 : lts.Need-returns-2 (claims t) (at t) reads.Post
   returns-2 c = left-none refl (left-byte _ [] refl (last c))
@@ -82,16 +67,16 @@ pub +put-number-spec : {M : Type 1} → statement M
     (claims t)
     (at t)
     reads.Post
-    (cast-out t)
-    (add-out t)
+    (λ c. search needs)
+    (λ c. search needs)
     (slice-write-out t)
     (add-result t)
-    (same-length t)
+    (λ c. search needs)
     (returns t)
     (put-number-requires t)
-    (cast-out-2 t)
-    (add-out-2 t)
+    (λ c. search needs)
+    (λ c. search needs)
     (slice-write-out-2 t)
     (add-result-2 t)
-    (same-length-2 t)
+    (λ c. search needs)
     (returns-2 t)

@@ -5,9 +5,6 @@ use Rattle.tabtext.proofs.Places.{first-at, first-past}
 use Rattle.tabtext.proofs.number.byte_at.Statement.{statement}
 use Rattle.tabtext.proofs.number.byte_at.Tie as tie
 
-shared-slice-read-result : tie.Need-shared-slice-read-result
-shared-slice-read-result c = search needs
-
 returns : tie.Need-returns
 returns c = sym (first-at _ _ (c .before .if1 .taken))
 
@@ -15,4 +12,4 @@ returns-2 : tie.Need-returns-2
 returns-2 c = sym (first-past _ _ (c .if1 .left))
 
 pub byte-at-spec : {M : Type 1} → statement M
-byte-at-spec = tie.close (tie.spec shared-slice-read-result returns returns-2)
+byte-at-spec = tie.close (tie.spec (λ c. search needs) returns returns-2)

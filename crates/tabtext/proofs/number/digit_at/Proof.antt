@@ -5,12 +5,6 @@ use Rattle.tabtext.proofs.Places.{digit-is, digit-above, digit-below}
 use Rattle.tabtext.proofs.number.digit_at.Statement.{statement}
 use Rattle.tabtext.proofs.number.digit_at.Tie as tie
 
-byte-at-requires : tie.Need-byte-at-requires
-byte-at-requires c κs = search needs
-
-cast-result : tie.Need-cast-result
-cast-result c = search needs
-
 returns : tie.Need-returns
 returns c = sym (digit-is _ _ (c .before .before .byte-at .ensures) (c .before .if1 .taken) (c .if2 .taken))
 
@@ -21,4 +15,4 @@ returns-3 : tie.Need-returns-3
 returns-3 c = sym (digit-below _ _ (c .before .byte-at .ensures) (c .if1 .left))
 
 pub digit-at-spec : {M : Type 1} → statement M
-digit-at-spec = tie.close (tie.spec byte-at-requires cast-result returns returns-2 returns-3)
+digit-at-spec = tie.close (tie.spec (λ c κs. search needs) (λ c. search needs) returns returns-2 returns-3)

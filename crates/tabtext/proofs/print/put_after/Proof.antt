@@ -7,21 +7,17 @@ use Rattle.tabtext.proofs.Writing.{left-all, left-byte, left-last, writ
 use Rattle.tabtext.proofs.print.put_after.Statement.{statement}
 use Rattle.tabtext.proofs.print.put_after.Tie as tie
 
-slice-write-out : tie.Need-slice-write-out
-slice-write-out c = search needs
-
-add-put-number : tie.Need-add-put-number
-add-put-number c = search needs
-
 put-number-requires : tie.Need-put-number-requires
 put-number-requires c κs = simp length-set (omega arith)
 
 returns : tie.Need-returns
-returns c = left-last (left-byte _ _ refl (left-all refl (c .before .before .before .before .before .pre))) (c .before .before .put-number .ensures)
+returns c =
+    let p = c .before .before in
+    left-last (left-byte _ _ refl (left-all refl (p .before .before .before .pre))) (p .put-number .ensures)
 
 same-length : tie.Need-same-length
 same-length c = written-length (returns c)
 
 pub put-after-spec : {M : Type 1} → statement M
 put-after-spec =
-    tie.close (tie.spec slice-write-out add-put-number put-number-requires same-length returns)
+    tie.close (tie.spec (λ c. search needs) (λ c. search needs) put-number-requires same-length returns)

@@ -17,31 +17,22 @@ abbrev μ-loop : tie.MeasureT-loop
 loop-holds : tie.Need-loop-holds Inv-loop μ-loop
 loop-holds c = (omega arith, left-all refl (c .pre))
 
-shared-slice-read-out : tie.Need-shared-slice-read-out Inv-loop μ-loop
-shared-slice-read-out c = omega arith
-
 slice-write-out : tie.Need-slice-write-out Inv-loop μ-loop
-slice-write-out c = omega (arith, length-drop (c .before .before .loop .j) (c .before .before .before .args .w .now))
+slice-write-out c = omega (arith, length-drop (c .before .before .loop .j) (c .before .before .before .args .bytes .now))
 
 add-i : tie.Need-add-i Inv-loop μ-loop
-add-i c = omega (arith, length-drop (c .before .before .loop .j) (c .before .before .before .args .w .now))
-
-add-j : tie.Need-add-j Inv-loop μ-loop
-add-j c = omega arith
-
-loop-less : tie.Need-loop-less Inv-loop μ-loop
-loop-less c = omega arith
+add-i c = omega (arith, length-drop (c .before .before .loop .j) (c .before .before .before .args .bytes .now))
 
 loop-again : tie.Need-loop-again Inv-loop μ-loop
 loop-again c =
     let s = c .before .before in
-    (omega arith, left-byte _ _ (stands-at (s .before .args .w .now) _ _ 0 refl (c .before .loop-test .taken)) (s .loop .inv .1))
+    (omega arith, left-byte _ _ (stands-at (s .before .args .bytes .now) _ _ 0 refl (c .before .loop-test .taken)) (s .loop .inv .1))
 
 same-length : tie.Need-same-length Inv-loop μ-loop
 same-length c = c .before .loop .inv .1 .long
 
 returns : tie.Need-returns Inv-loop μ-loop
-returns c = left-none (drop-of-length-le (c .before .before .args .w .now) (c .loop-test .left)) (c .before .loop .inv .1)
+returns c = left-none (drop-of-length-le (c .before .before .args .bytes .now) (c .loop-test .left)) (c .before .loop .inv .1)
 
 pub put-bytes-spec : {M : Type 1} → statement M
 put-bytes-spec =
@@ -50,11 +41,11 @@ put-bytes-spec =
     Inv-loop
     μ-loop
     loop-holds
-    shared-slice-read-out
+    (λ c. omega arith)
     slice-write-out
     add-i
-    add-j
-    loop-less
+    (λ c. omega arith)
+    (λ c. omega arith)
     loop-again
     same-length
     returns)

@@ -3,12 +3,19 @@ use mathlib.Core.Path.{refl}
 use mathlib.Core.List.{[], _∷_, _++_}
 use Prim.Native.Nat.{ℕ}
 use native.Mathlib.Omega.{arith}
-use Rattle.tabtext.specs.Text.{Bytes, number}
-use Rattle.tabtext.specs.Printed.{counted}
+use Rattle.lists.specs.Lists.{Bytes}
+use Rattle.tabtext.specs.Text.{decimal}
+use Rattle.tabtext.specs.Printed.{countLine}
 use Rattle.tabtext.proofs.Separators.{counted-parts}
 use Rattle.tabtext.proofs.Writing.{Left, left-all, left-less, left-byte, left-none, left-room, room-first, written-length}
 use Rattle.tabtext.proofs.print.put_count.Statement.{statement}
 use Rattle.tabtext.proofs.print.put_count.Tie as tie
+
+abbrev start : tie.After-slice-known2 → tie.Start
+start c = c .before .before .before .before .before .before
+
+abbrev word : tie.After-slice-known3 → tie.After-slice-known2
+word c = c .before .before .before .before
 
 put-bytes-requires : tie.Need-put-bytes-requires
 put-bytes-requires c κs =
@@ -17,24 +24,20 @@ put-bytes-requires c κs =
 
 -- What is left of the line.
 abbrev Rest : tie.Start → Bytes → Bytes → ℕ → Type 0
-Rest s rest now i = Left (s .args .out .now) (s .args .at) (counted (s .args .word .now) (s .args .v)) rest now i
+Rest s rest now i = Left (s .args .out .now) (s .args .at) (countLine (s .args .word .now) (s .args .v)) rest now i
 
 after-word : (c : tie.After-slice-known2) →
-    let s = c .before .before .before .before .before .before in
-    Rest s (9 ∷ number (s .args .v) ++ (10 ∷ [])) (c .before .before .put-bytes .last .0) (c .before .before .put-bytes .result)
-after-word c =
-    let s = c .before .before .before .before .before .before in
-    left-less _ _ (counted-parts _ _) (left-all refl (s .pre)) (c .before .before .put-bytes .ensures)
+    let p = c .before .before .put-bytes in
+    Rest (start c) (9 ∷ decimal (start c .args .v) ++ (10 ∷ [])) (p .last .0) (p .result)
+after-word c = left-less _ _ (counted-parts _ _) (left-all refl (start c .pre)) (c .before .before .put-bytes .ensures)
 
 put-after-requires : tie.Need-put-after-requires
-put-after-requires c κs =
-    let s = c .before .before .before .before .before .before .before .args in
-    left-room (9 ∷ number (s .v)) (10 ∷ []) refl (after-word (c .before))
+put-after-requires c κs = left-room (9 ∷ decimal (start (c .before) .args .v)) (10 ∷ []) refl (after-word (c .before))
 
 after-number : (c : tie.After-slice-known3) →
-    let s = c .before .before .before .before .before .before .before .before .before .before in
-    Rest s (10 ∷ []) (c .before .before .put-after .last .0) (c .before .before .put-after .result)
-after-number c = left-less _ _ refl (after-word (c .before .before .before .before)) (c .before .before .put-after .ensures)
+    let p = c .before .before .put-after in
+    Rest (start (word c)) (10 ∷ []) (p .last .0) (p .result)
+after-number c = left-less _ _ refl (after-word (word c)) (c .before .before .put-after .ensures)
 
 slice-write-out : tie.Need-slice-write-out
 slice-write-out c = omega (arith, after-number c)

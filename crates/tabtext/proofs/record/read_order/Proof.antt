@@ -4,18 +4,15 @@ use native.Mathlib.Omega.{arith}
 use borrow.Author.Tests.{not-true, not-false}
 use borrow.Author.Needs.{needs}
 use Rattle.tabtext.proofs.Places.{letter-within}
-use Rattle.tabtext.proofs.OrderLoop.{no-letter, Inv, start, turn, stop, full}
+use Rattle.tabtext.proofs.OrderLoop.{no-letter, LettersInv, start, turn, stop, full}
 use Rattle.tabtext.proofs.record.read_order.Statement.{statement}
 use Rattle.tabtext.proofs.record.read_order.Tie as tie
 
 abbrev Inv-loop : tie.InvT-loop
-Inv-loop s at i₀ k₀ i k = Inv s at i k
+Inv-loop s at i₀ k₀ i k = LettersInv s at i k
 
 abbrev μ-loop : tie.MeasureT-loop
 μ-loop s at i₀ k₀ i k = k
-
-letter-at-requires : tie.Need-letter-at-requires Inv-loop μ-loop
-letter-at-requires c κs = search needs
 
 returns : tie.Need-returns Inv-loop μ-loop
 returns c = no-letter _ (sym (c .before .letter-at .ensures) ∙ not-true _ (c .if1 .taken))
@@ -23,13 +20,10 @@ returns c = no-letter _ (sym (c .before .letter-at .ensures) ∙ not-true _ (c .
 add-i : tie.Need-add-i Inv-loop μ-loop
 add-i c =
     let a = c .before .before .before .args in
-    omega (arith, letter-within (a .s .now) (a .at) (sym (c .before .letter-at .ensures) ∙ not-false _ (c .if1 .left)))
+    omega (arith, letter-within (a .text .now) (a .at) (sym (c .before .letter-at .ensures) ∙ not-false _ (c .if1 .left)))
 
 loop-holds : tie.Need-loop-holds Inv-loop μ-loop
 loop-holds c = start _ _ (sym (c .before .letter-at .ensures) ∙ not-false _ (c .if1 .left))
-
-letter-at-requires-2 : tie.Need-letter-at-requires-2 Inv-loop μ-loop
-letter-at-requires-2 c κs = search needs
 
 returns-2 : tie.Need-returns-2 Inv-loop μ-loop
 returns-2 c = stop _ _ _ _ (c .before .before .before .loop .inv) (sym (c .before .letter-at2 .ensures) ∙ not-true _ (c .if2 .taken))
@@ -37,13 +31,9 @@ returns-2 c = stop _ _ _ _ (c .before .before .before .loop .inv) (sym (c .befor
 add-i-2 : tie.Need-add-i-2 Inv-loop μ-loop
 add-i-2 c =
     let l = c .before .before .before in
-    omega (arith, letter-within (l .before .before .before .before .args .s .now) (l .loop .i) (sym (c .before .letter-at2 .ensures) ∙ not-false _ (c .if2 .left)))
-
-sub-k : tie.Need-sub-k Inv-loop μ-loop
-sub-k c = search needs
-
-loop-less : tie.Need-loop-less Inv-loop μ-loop
-loop-less c = search needs
+    let first = l .before .before in
+    let letter = sym (c .before .letter-at2 .ensures) ∙ not-false _ (c .if2 .left) in
+    omega (arith, letter-within (first .before .before .args .text .now) (l .loop .i) letter)
 
 loop-again : tie.Need-loop-again Inv-loop μ-loop
 loop-again c =
@@ -59,14 +49,14 @@ read-order-spec =
     (tie.spec
     Inv-loop
     μ-loop
-    letter-at-requires
+    (λ c κs. search needs)
     returns
     add-i
     loop-holds
-    letter-at-requires-2
+    (λ c κs. search needs)
     returns-2
     add-i-2
-    sub-k
-    loop-less
+    (λ c. search needs)
+    (λ c. search needs)
     loop-again
     returns-3)

@@ -4,12 +4,6 @@ use Rattle.tabtext.proofs.Sequences.{exponent-first, exponent-later}
 use Rattle.tabtext.proofs.terms.read_exponent.Statement.{statement}
 use Rattle.tabtext.proofs.terms.read_exponent.Tie as tie
 
-read-number-requires : tie.Need-read-number-requires
-read-number-requires c κs = search needs
-
-read-field-requires : tie.Need-read-field-requires
-read-field-requires c κs = search needs
-
 returns : tie.Need-returns
 returns c = rw (exponent-first _ (c .before .if1 .taken)) (c .read-number .ensures)
 
@@ -18,4 +12,4 @@ returns-2 c = rw (exponent-later _ (c .before .if1 .left)) (c .read-field .ensur
 
 pub read-exponent-spec : {M : Type 1} → statement M
 read-exponent-spec =
-    tie.close (tie.spec read-number-requires read-field-requires returns returns-2)
+    tie.close (tie.spec (λ c κs. search needs) (λ c κs. search needs) returns returns-2)

@@ -5,19 +5,16 @@ use Rattle.fglm.proofs.RowSteps.{cleared-by}
 use Rattle.fglm.proofs.elimination.Reduced.cleared.Statement.{statement}
 use Rattle.fglm.proofs.elimination.Reduced.cleared.Tie as tie
 
-mul-less : tie.Need-mul-less
-mul-less c = search needs
-
-element-copy-out-less : tie.Need-element-copy-out-less
-element-copy-out-less c = search needs
+abbrev origin : tie.After-less-arg → tie.Start
+origin c = c .before .before .before
 
 less-requires : tie.Need-less-requires
 less-requires c κs =
-    let (h, m, r, q) = c .before .before .before .pre in
-    (h, m, r .row-below, r .combination-below, r .row-below .below _, q)
+    let (modulus, row, q) = origin c .pre in
+    (modulus, row .vectors, row .vectors .row-below .below _, q)
 
 returns : tie.Need-returns
-returns c = let l = c .before .before in cleared-by _ _ (l .before .before .before .before .args .self) _ _ refl (l .less .ensures)
+returns c = cleared-by refl (c .before .before .less .ensures)
 
 pub cleared-spec : {M : Type 1} → statement M
-cleared-spec = tie.close (tie.spec mul-less element-copy-out-less less-requires returns)
+cleared-spec = tie.close (tie.spec (λ c. search needs) (λ c. search needs) less-requires returns)

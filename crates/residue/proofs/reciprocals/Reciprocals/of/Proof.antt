@@ -3,19 +3,10 @@ use native.Mathlib.Omega.{arith}
 use Rattle.residue.proofs.reciprocals.Reciprocals.of.Statement.{statement}
 use Rattle.residue.proofs.reciprocals.Reciprocals.of.Tie as tie
 
-cast-at : tie.Need-cast-at
-cast-at c = omega arith
-
-mul-b : tie.Need-mul-b
-mul-b c = omega arith
-
-element-copy-out-b : tie.Need-element-copy-out-b
-element-copy-out-b c = omega arith
-
 returns : tie.Need-returns
 returns c =
     let (s, h, k) = c .before .before .pre in
     (s .inverse _ h k, s .residue _ h k)
 
 pub of-spec : {M : Type 1} → statement M
-of-spec = tie.close (tie.spec cast-at mul-b element-copy-out-b returns)
+of-spec = tie.close (tie.spec (λ c. omega arith) (λ c. omega arith) (λ c. omega arith) returns)

@@ -1,0 +1,1 @@
+// Lists and arrays: definitions (specs/) and laws (proofs/), no code.
