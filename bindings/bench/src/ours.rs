@@ -11,7 +11,7 @@ use std::time::{Duration, Instant};
 const ROUND: Duration = Duration::from_millis(10);
 
 /// The output of the library.
-pub fn output(text: &[u8]) -> Result<String, juirkes::Refusal> {
+pub fn output(text: &[u8]) -> Result<String, juirkes::Refused> {
     let mut buffer = vec![0; juirkes::OUTPUT_ROOM];
     let length = juirkes::convert(text, &mut buffer)?;
     Ok(String::from_utf8_lossy(&buffer[..length]).into_owned())

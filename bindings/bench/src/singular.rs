@@ -74,9 +74,11 @@ fn script(name: &str, content: &str) -> io::Result<PathBuf> {
 
 /// The numbers that the timing script printed.
 fn numbers(output: &str) -> Option<Found> {
-    let numbers: Vec<f64> = output.split_whitespace().map(|word| word.parse().ok()).collect::<Option<_>>()?;
-    let [full, bare, reps, lines, standard] = numbers[..] else { return None };
-    Some(Found { microseconds: (full - bare) / reps, lines: lines as usize, standard: standard as usize })
+    let words: Vec<&str> = output.split_whitespace().collect();
+    let [full, bare, reps, lines, standard] = words[..] else { return None };
+    let number = |word: &str| word.parse::<f64>().ok();
+    let microseconds = (number(full)? - number(bare)?) / number(reps)?;
+    Some(Found { microseconds, lines: lines.parse().ok()?, standard: standard.parse().ok()? })
 }
 
 /// Times one round on a text.

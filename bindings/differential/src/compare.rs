@@ -48,7 +48,7 @@ fn room_for(random: &mut Random, length: usize, room: Room) -> usize {
 
 /// The library's answer.
 fn library(input: &[u8], output: &mut [u8]) -> Answer {
-    juirkes::convert(input, output).map_err(|refusal| Refused { number: refusal.reason.number(), line: refusal.line })
+    juirkes::convert(input, output).map_err(|refused| Refused { number: refused.refusal.number(), line: refused.line })
 }
 
 /// Lends both converters equal buffers of random bytes and compares all they leave.

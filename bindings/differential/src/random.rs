@@ -7,16 +7,16 @@ impl Random {
     /// The numbers of the text with this index in the run with this seed.
     pub fn new(seed: u64, index: u64) -> Random {
         let mut start = Random(seed);
-        let mixed = start.next() ^ index.wrapping_mul(0xd1342543de82ef95);
+        let mixed = start.next() ^ index.wrapping_mul(0xd134_2543_de82_ef95);
         Random(mixed)
     }
 
     /// The next 64 bits.
     fn next(&mut self) -> u64 {
-        self.0 = self.0.wrapping_add(0x9e3779b97f4a7c15);
+        self.0 = self.0.wrapping_add(0x9e37_79b9_7f4a_7c15);
         let mut z = self.0;
-        z = (z ^ (z >> 30)).wrapping_mul(0xbf58476d1ce4e5b9);
-        z = (z ^ (z >> 27)).wrapping_mul(0x94d049bb133111eb);
+        z = (z ^ (z >> 30)).wrapping_mul(0xbf58_476d_1ce4_e5b9);
+        z = (z ^ (z >> 27)).wrapping_mul(0x94d0_49bb_1331_11eb);
         z ^ (z >> 31)
     }
 

@@ -21,7 +21,7 @@ fn by_library(text: &[u8]) -> Vec<u8> {
     let mut output = vec![0; juirkes::OUTPUT_ROOM];
     match juirkes::convert(text, &mut output) {
         Ok(length) => output[..length].to_vec(),
-        Err(refusal) => refused_line(Refused { number: refusal.reason.number(), line: refusal.line }),
+        Err(refused) => refused_line(Refused { number: refused.refusal.number(), line: refused.line }),
     }
 }
 

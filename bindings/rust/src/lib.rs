@@ -20,25 +20,27 @@
 //!     runs\t3\n\
 //!     end\t2\n"
 //! );
-//! # Ok::<(), juirkes::Refusal>(())
+//! # Ok::<(), juirkes::Refused>(())
 //! ```
 //!
-//! A refusal names its reason and its line, and leaves the output buffer as it was:
+//! A refused text gets its refusal and its line, and leaves the output buffer as it was:
 //!
 //! ```
-//! use juirkes::{convert, Reason};
+//! use juirkes::{convert, Refusal};
 //!
 //! let mut output = [7; 100];
-//! let refusal = convert(b"basis\tgrevlex\t3\t1\npoly\t2:1\nend\t1\n", &mut output).unwrap_err();
-//! assert_eq!(refusal.reason, Reason::NotMonic);
-//! assert_eq!(refusal.line, 2);
-//! assert_eq!(refusal.to_string(), "refusal 9, line 2: leading coefficient not 1");
+//! let refused = convert(b"basis\tgrevlex\t3\t1\npoly\t2:1\nend\t1\n", &mut output).unwrap_err();
+//! assert_eq!(refused.refusal, Refusal::NotMonic);
+//! assert_eq!(refused.line, 2);
+//! assert_eq!(refused.to_string(), "refusal 9, line 2: leading coefficient not 1");
 //! assert_eq!(output, [7; 100]);
 //! ```
 
+#![warn(missing_docs)]
+
 mod refusal;
 
-pub use refusal::{Reason, Refusal};
+pub use refusal::{Refusal, Refused};
 
 /// The longest input that is read, in bytes. A longer one is refused.
 pub const INPUT_LIMIT: usize = 65_536;
@@ -59,20 +61,24 @@ extern "C" {
 
 /// Converts the text `input` and writes the lex basis and its standard monomials to the front of `output`.
 ///
-/// Returns the length written. Bytes of `output` past that length keep their contents; a refusal writes no byte.
+/// Returns the length written. Bytes of `output` past that length keep their contents.
+///
+/// # Errors
+///
+/// The first check that `input` fails, or [`Refusal::OutputTooShort`] if `output` is shorter than the text to write. No byte is written.
 ///
 /// # Panics
 ///
 /// If the linked library answers with a number that is no refusal. The library is proved never to.
-pub fn convert(input: &[u8], output: &mut [u8]) -> Result<usize, Refusal> {
+pub fn convert(input: &[u8], output: &mut [u8]) -> Result<usize, Refused> {
     // SAFETY: each pointer is its slice's, never null, with that slice's length; the exclusive slice cannot overlap the shared one.
     let answer = unsafe { juirkes_convert(input.as_ptr(), input.len(), output.as_mut_ptr(), output.len()) };
     let value = answer.value as usize;
     if answer.number == 0 {
         return Ok(value);
     }
-    match Reason::from_number(answer.number) {
-        Some(reason) => Err(Refusal { reason, line: value }),
+    match Refusal::from_number(answer.number) {
+        Some(refusal) => Err(Refused { refusal, line: value }),
         None => panic!("the linked library answered {}, which is no refusal's number", answer.number),
     }
 }

@@ -3,10 +3,11 @@
 use std::error::Error;
 use std::fmt;
 
-/// Why a text was refused. The value of a case is its number.
+/// Why a text was refused. The value of a case is its number; cases may be added.
 #[derive(Clone, Copy, Debug, PartialEq, Eq, Hash)]
+#[non_exhaustive]
 #[repr(u8)]
-pub enum Reason {
+pub enum Refusal {
     /// More than 65,536 input bytes. Line 0.
     InputTooLong = 1,
     /// A line is not of its form or kind at its place, a line or an LF is missing, or something follows the end line. The first such line.
@@ -41,33 +42,35 @@ pub enum Reason {
     OutputTooShort = 16,
 }
 
-/// Every reason, by its number.
-const REASONS: [Reason; 16] = [
-    Reason::InputTooLong,
-    Reason::BadLine,
-    Reason::OrderNotGrevlex,
-    Reason::BadPrime,
-    Reason::BadVariableCount,
-    Reason::BadCoefficient,
-    Reason::ExponentTooLarge,
-    Reason::TermsNotFalling,
-    Reason::NotMonic,
-    Reason::TooManyLinesOrTerms,
-    Reason::EndNumberDiffers,
-    Reason::NotReduced,
-    Reason::NotZeroDimensional,
-    Reason::TooManyStandardMonomials,
-    Reason::NotGroebner,
-    Reason::OutputTooShort,
+/// Every refusal, by its number.
+const REFUSALS: [Refusal; 16] = [
+    Refusal::InputTooLong,
+    Refusal::BadLine,
+    Refusal::OrderNotGrevlex,
+    Refusal::BadPrime,
+    Refusal::BadVariableCount,
+    Refusal::BadCoefficient,
+    Refusal::ExponentTooLarge,
+    Refusal::TermsNotFalling,
+    Refusal::NotMonic,
+    Refusal::TooManyLinesOrTerms,
+    Refusal::EndNumberDiffers,
+    Refusal::NotReduced,
+    Refusal::NotZeroDimensional,
+    Refusal::TooManyStandardMonomials,
+    Refusal::NotGroebner,
+    Refusal::OutputTooShort,
 ];
 
-impl Reason {
-    /// The reason with this number, 1 to 16.
-    pub fn from_number(number: u64) -> Option<Reason> {
-        REASONS.into_iter().find(|reason| reason.number() == number)
+impl Refusal {
+    /// The refusal with this number, if there is one.
+    #[must_use]
+    pub fn from_number(number: u64) -> Option<Refusal> {
+        REFUSALS.into_iter().find(|refusal| refusal.number() == number)
     }
 
-    /// Its number, 1 to 16.
+    /// Its number.
+    #[must_use]
     pub fn number(self) -> u64 {
         self as u64
     }
@@ -75,49 +78,49 @@ impl Reason {
     /// Its words.
     fn words(self) -> &'static str {
         match self {
-            Reason::InputTooLong => "more than 65,536 input bytes",
-            Reason::BadLine => "a line not of its form or kind at its place, a missing line or a missing LF, or anything after end",
-            Reason::OrderNotGrevlex => "order word is not grevlex",
-            Reason::BadPrime => "p is no prime from 2 to 251",
-            Reason::BadVariableCount => "n is not 1 to 4",
-            Reason::BadCoefficient => "coefficient not 1 to p - 1",
-            Reason::ExponentTooLarge => "exponent over 32",
-            Reason::TermsNotFalling => "a term not smaller than the one before it",
-            Reason::NotMonic => "leading coefficient not 1",
-            Reason::TooManyLinesOrTerms => "a 98th poly line, or a 34th term in a line",
-            Reason::EndNumberDiffers => "end number differs from the poly lines",
-            Reason::NotReduced => "a monomial of the line is divisible by another line's leading monomial",
-            Reason::NotZeroDimensional => "not zero-dimensional",
-            Reason::TooManyStandardMonomials => "more than 32 standard monomials",
-            Reason::NotGroebner => "an S-polynomial with nonzero remainder",
-            Reason::OutputTooShort => "output buffer shorter than the output",
+            Refusal::InputTooLong => "more than 65,536 input bytes",
+            Refusal::BadLine => "a line not of its form or kind at its place, a missing line or a missing LF, or anything after end",
+            Refusal::OrderNotGrevlex => "order word is not grevlex",
+            Refusal::BadPrime => "p is no prime from 2 to 251",
+            Refusal::BadVariableCount => "n is not 1 to 4",
+            Refusal::BadCoefficient => "coefficient not 1 to p - 1",
+            Refusal::ExponentTooLarge => "exponent over 32",
+            Refusal::TermsNotFalling => "a term not smaller than the one before it",
+            Refusal::NotMonic => "leading coefficient not 1",
+            Refusal::TooManyLinesOrTerms => "a 98th poly line, or a 34th term in a line",
+            Refusal::EndNumberDiffers => "end number differs from the poly lines",
+            Refusal::NotReduced => "a monomial of the line is divisible by another line's leading monomial",
+            Refusal::NotZeroDimensional => "not zero-dimensional",
+            Refusal::TooManyStandardMonomials => "more than 32 standard monomials",
+            Refusal::NotGroebner => "an S-polynomial with nonzero remainder",
+            Refusal::OutputTooShort => "output buffer shorter than the output",
         }
     }
 }
 
-impl fmt::Display for Reason {
+impl fmt::Display for Refusal {
     fn fmt(&self, f: &mut fmt::Formatter<'_>) -> fmt::Result {
         f.write_str(self.words())
     }
 }
 
-/// A refused text: the reason and the line it is about, counted from 1; line 0 is the text as a whole.
+/// A refused text: the refusal and the line it is about, counted from 1; line 0 is the text as a whole.
 #[derive(Clone, Copy, Debug, PartialEq, Eq, Hash)]
-pub struct Refusal {
+pub struct Refused {
     /// Why the text was refused.
-    pub reason: Reason,
+    pub refusal: Refusal,
     /// The line of the text, or 0 where no single line is meant.
     pub line: usize,
 }
 
-impl fmt::Display for Refusal {
+impl fmt::Display for Refused {
     fn fmt(&self, f: &mut fmt::Formatter<'_>) -> fmt::Result {
-        write!(f, "refusal {}", self.reason.number())?;
+        write!(f, "refusal {}", self.refusal.number())?;
         if self.line != 0 {
             write!(f, ", line {}", self.line)?;
         }
-        write!(f, ": {}", self.reason)
+        write!(f, ": {}", self.refusal)
     }
 }
 
-impl Error for Refusal {}
+impl Error for Refused {}

@@ -1,6 +1,6 @@
 //! The short cases of the format's description, called through the crate.
 
-use juirkes::{convert, Reason};
+use juirkes::{convert, Refusal};
 
 /// The number and line of a refused text, or 0 and the output.
 fn answer(text: &str) -> (u64, usize, String) {
@@ -10,9 +10,9 @@ fn answer(text: &str) -> (u64, usize, String) {
             assert!(output[length..].iter().all(|&byte| byte == b'?'), "bytes past the length");
             (0, 0, String::from_utf8_lossy(&output[..length]).into_owned())
         }
-        Err(refusal) => {
+        Err(refused) => {
             assert!(output.iter().all(|&byte| byte == b'?'), "bytes of a refused output");
-            (refusal.reason.number(), refusal.line, String::new())
+            (refused.refusal.number(), refused.line, String::new())
         }
     }
 }
@@ -61,16 +61,16 @@ fn exact_and_short_room() {
     assert_eq!(convert(input, &mut exact), Ok(output.len()));
     assert_eq!(exact, output);
     let mut short = vec![9; output.len() - 1];
-    let refusal = convert(input, &mut short).unwrap_err();
-    assert_eq!((refusal.reason, refusal.line), (Reason::OutputTooShort, 0));
+    let refused = convert(input, &mut short).unwrap_err();
+    assert_eq!((refused.refusal, refused.line), (Refusal::OutputTooShort, 0));
     assert!(short.iter().all(|&byte| byte == 9));
 }
 
 #[test]
-fn each_number_has_its_reason() {
+fn each_number_has_its_refusal() {
     for number in 1..=16 {
-        assert_eq!(Reason::from_number(number).map(Reason::number), Some(number));
+        assert_eq!(Refusal::from_number(number).map(Refusal::number), Some(number));
     }
-    assert_eq!(Reason::from_number(0), None);
-    assert_eq!(Reason::from_number(17), None);
+    assert_eq!(Refusal::from_number(0), None);
+    assert_eq!(Refusal::from_number(17), None);
 }

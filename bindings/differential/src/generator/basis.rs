@@ -28,7 +28,9 @@ fn subtract(target: &mut [u32], factor: u32, source: &[u32], p: u32) {
 
 /// Multiplies each entry.
 fn scale(row: &mut [u32], factor: u32, p: u32) {
-    row.iter_mut().for_each(|entry| *entry = *entry * factor % p);
+    for entry in row {
+        *entry = *entry * factor % p;
+    }
 }
 
 /// The reduced grevlex basis of the polynomials that vanish in an algebra, by rising leading monomial.

@@ -34,7 +34,7 @@ fn damage(random: &mut Random, mut text: Vec<u8>) -> Vec<u8> {
         6 => text.extend_from_slice(random.pick(&[&b"\n"[..], b"end\t0\n", b"x", b"\0", b"poly\t1:0\n", b"\t"])),
         7 => return number_changed(random, text),
         8 => return lines_changed(random, text),
-        9 => return fields_changed(random, text),
+        9 => return fields_changed(random, &text),
         10 if at < text.len() => {
             let end = (at + random.between(1, 12)).min(text.len());
             text.drain(at..end);
@@ -84,7 +84,7 @@ fn lines_changed(random: &mut Random, text: Vec<u8>) -> Vec<u8> {
 }
 
 /// A field of a line doubled, dropped or swapped with another.
-fn fields_changed(random: &mut Random, text: Vec<u8>) -> Vec<u8> {
+fn fields_changed(random: &mut Random, text: &[u8]) -> Vec<u8> {
     let mut lines: Vec<Vec<u8>> = text.split(|&byte| byte == b'\n').map(<[u8]>::to_vec).collect();
     let at = random.below(lines.len());
     let mut fields: Vec<Vec<u8>> = lines[at].split(|&byte| byte == b'\t').map(<[u8]>::to_vec).collect();
@@ -106,7 +106,7 @@ pub fn bad_form(random: &mut Random, text: Vec<u8>) -> Vec<u8> {
         0 => text[..text.len() - 1].to_vec(),
         1 => text[..missing_end].to_vec(),
         2 => [&text[..], random.pick(&[&b"\n"[..], b"end\t1\n", b" ", b"\xff"])].concat(),
-        3 => fields_changed(random, text),
+        3 => fields_changed(random, &text),
         4 => lines_changed(random, text),
         5 => {
             let mut text = text;

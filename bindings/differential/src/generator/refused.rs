@@ -11,7 +11,7 @@ use crate::random::Random;
 pub fn text(random: &mut Random, number: u64) -> Vec<u8> {
     let mut draft = any_valid(random);
     match number {
-        1 => return long_text(random, draft),
+        1 => return long_text(random, &draft),
         2 => return damaged::bad_form(random, draft.text()),
         3 => draft.word = order_word(random),
         4 => draft.p = random.pick(&[0, 1, 4, 9, 15, 49, 121, 169, 221, 247, 249, 250, 252, 253, 255, 256, 257, 509, 65537, 99991, 99999]),
@@ -41,7 +41,7 @@ fn place(random: &mut Random, draft: &Draft) -> Option<(usize, usize)> {
 }
 
 /// A text of about 65,536 bytes: a long tail after it, one long line, or any bytes.
-fn long_text(random: &mut Random, draft: Draft) -> Vec<u8> {
+fn long_text(random: &mut Random, draft: &Draft) -> Vec<u8> {
     let length = match random.below(4) {
         0 => 65_536,
         1 => 65_537,
@@ -55,9 +55,10 @@ fn long_text(random: &mut Random, draft: Draft) -> Vec<u8> {
     };
     let long_line = text.ends_with(b"poly");
     while text.len() < length {
-        match long_line {
-            true => text.extend_from_slice(b"\t1:5"),
-            false => text.push(random.byte()),
+        if long_line {
+            text.extend_from_slice(b"\t1:5");
+        } else {
+            text.push(random.byte());
         }
     }
     text.truncate(length);
@@ -78,7 +79,7 @@ fn order_word(random: &mut Random) -> String {
     if random.percent(60) {
         return random.pick(&known).to_string();
     }
-    (0..random.between(1, 8)).map(|_| char::from(b'a' + random.below(26) as u8)).collect()
+    (0..random.between(1, 8)).map(|_| char::from(random.pick(b"abcdefghijklmnopqrstuvwxyz"))).collect()
 }
 
 /// Sets a coefficient to 0, p or more.
@@ -106,9 +107,8 @@ fn bad_term_order(random: &mut Random, draft: &mut Draft) {
         terms.insert(term + 1, again);
     } else {
         // The leading coefficient stays 1, so that the order is what is wrong.
-        let exponents = terms[term].exponents.clone();
-        terms[term].exponents = terms[other].exponents.clone();
-        terms[other].exponents = exponents;
+        let exponents = std::mem::take(&mut terms[term].exponents);
+        terms[term].exponents = std::mem::replace(&mut terms[other].exponents, exponents);
     }
 }
 
@@ -131,7 +131,9 @@ fn falling(random: &mut Random, n: usize, count: usize) -> Vec<Monomial> {
     let mut found = std::collections::BTreeSet::new();
     for _ in 0..3 * count {
         let mut monomial = Monomial::ONE;
-        monomial.0[..n].iter_mut().for_each(|exponent| *exponent = random.below(greatest + 1) as u32);
+        for exponent in &mut monomial.0[..n] {
+            *exponent = random.below(greatest + 1) as u32;
+        }
         found.insert(Grevlex(monomial));
     }
     found.into_iter().rev().take(count).map(|key| key.0).collect()
