@@ -2,7 +2,7 @@
 ghost use mathlib.Core.Path.{_≡_};
 ghost use Prim.Native.Nat.{_+_, _-_, _/_, _<_, _≤_};
 ghost use lib.ListN.{length};
-ghost use Rattle.residue.specs.Prime.{«largest-modulus»};
+ghost use Rattle.residue.specs.Prime.{Modulus};
 ghost use Rattle.residue.specs.Word.{word};
 ghost use Rattle.lines.specs.Sizes.{«most-standard»};
 ghost use Rattle.coordinates.specs.Vectors.{Below};
@@ -49,7 +49,7 @@ pub fn add_multiple(
     p: u16,
 ) -> Coordinates
     requires { ⌜
-        (at + most-standard ≤ length (now cells)) × (0 < p) × (p ≤ largest-modulus) × (over ≡ (word - 1) / p)
+        (at + most-standard ≤ length (now cells)) × Modulus p × (over ≡ (word - 1) / p)
         × (c < p) × Below p r × Below p (rowIn (now cells) at)
         ⌝ }
     ensures { λ a. ⌜ AddedMultiple p r c (rowIn (now (cells .entry)) at) a ⌝ }

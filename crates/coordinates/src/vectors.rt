@@ -3,7 +3,7 @@ ghost use mathlib.Core.Path.{_≡_};
 ghost use mathlib.Core.Bool.{true};
 ghost use mathlib.Core.Logic.{_↔_};
 ghost use Prim.Native.Nat.{ℕ, _<_, _≤_};
-ghost use Rattle.residue.specs.Prime.{«largest-modulus»};
+ghost use Rattle.residue.specs.Prime.{Modulus};
 ghost use Rattle.lines.specs.Sizes.{«most-standard»};
 ghost use Rattle.coordinates.specs.Vectors.{coordinate, Below, Cut, Represents, subtracted, multiplied, unitVector, FirstPlace};
 use crate::Coordinates;
@@ -20,7 +20,7 @@ pub enum Found {
 
 // a - c·b, as a + (p - c)·b
 pub fn subtract_multiple(a: Coordinates, c: Residue, other: Coordinates, p: u16) -> Coordinates
-    requires { ⌜ (1 < p) × (p ≤ largest-modulus) × Below p a × (c .0 < p) × Below p other ⌝ }
+    requires { ⌜ Modulus p × Below p a × (c .0 < p) × Below p other ⌝ }
     ensures { λ r. ⌜ Represents p r (subtracted p a (c .0) other) ⌝ }
 {
     let over = word_over(p);
@@ -36,7 +36,7 @@ pub fn subtract_multiple(a: Coordinates, c: Residue, other: Coordinates, p: u16)
 
 // c·a
 pub fn multiply(c: Residue, a: Coordinates, p: u16) -> Coordinates
-    requires { ⌜ (1 < p) × (p ≤ largest-modulus) × (c .0 < p) × Below p a ⌝ }
+    requires { ⌜ Modulus p × (c .0 < p) × Below p a ⌝ }
     ensures { λ r. ⌜ Represents p r (multiplied p (c .0) a) ⌝ }
 {
     let over = word_over(p);

@@ -1,12 +1,11 @@
 // The places of the rows of the products x_i·B_s, and what these rows make of coordinates in the irreducible monomials B.
 ghost use mathlib.Core.Path.{_≡_};
 ghost use Prim.Native.Nat.{_<_, _≤_};
-ghost use lib.ListN.{length};
-ghost use Rattle.residue.specs.Prime.{«largest-modulus»};
+ghost use Rattle.residue.specs.Prime.{Modulus};
 ghost use Rattle.monomial.specs.Sizes.{«most-variables»};
 ghost use Rattle.lines.specs.Sizes.{«most-standard»};
 ghost use Rattle.coordinates.specs.Vectors.{Below};
-ghost use Rattle.multiplication.specs.Rows.{«most-cells», rowStart, tablesOf, AllBelow, Multiplied};
+ghost use Rattle.multiplication.specs.Rows.{rowStart, tablesOf, Cells, Multiplied};
 use coordinates::Coordinates;
 use coordinates::rows::add_multiple;
 use coordinates::vectors::cut;
@@ -34,10 +33,7 @@ pub fn times_variable(
     count: usize,
     p: u16,
 ) -> Coordinates
-    requires { ⌜
-        (length (now cells) ≡ most-cells) × (i < most-variables) × (count ≤ most-standard) × (0 < p) × (p ≤ largest-modulus)
-        × AllBelow p (tablesOf (now cells)) × Below p vector
-        ⌝ }
+    requires { ⌜ Modulus p × Cells p (now cells) × (i < most-variables) × (count ≤ most-standard) × Below p vector ⌝ }
     ensures { λ r. ⌜ Multiplied p (tablesOf (now (cells .entry))) i vector count r ⌝ }
 {
     let over = word_over(p);

@@ -39,9 +39,9 @@ fits : (c : tie.In-loop Inv-loop μ-loop) → let s = c .before in let a = s .be
 fits c =
     let s = c .before in
     let a = s .before .before .args in
-    let (_, _, m, _, l, b, t) = s .before .before .pre in
+    let (_, modulus, _, l, b, t) = s .before .before .pre in
     let x = subst (_< a .p) (row-coordinate (a .cells .now) (a .at) (s .loop .k) (c .loop-test .taken)) (t .below (s .loop .k)) in
-    omega (arith, same c, b .below (s .loop .k), product-bound (a .p) (a .c) (getD (a .cells .now) (a .at + s .loop .k) 0) m l x)
+    omega (arith, same c, b .below (s .loop .k), product-bound (a .p) (a .c) (getD (a .cells .now) (a .at + s .loop .k) 0) (modulus .size) l x)
 
 mul-reduce-3 : tie.Need-mul-reduce-3 Inv-loop μ-loop
 mul-reduce-3 c = omega (arith, fits (c .before))
@@ -50,7 +50,7 @@ add-reduce-2 : tie.Need-add-reduce-2 Inv-loop μ-loop
 add-reduce-2 c = omega (arith, fits (c .before))
 
 reduce-requires : tie.Need-reduce-requires Inv-loop μ-loop
-reduce-requires c κs = let (_, o, _, e, _, _, _) = c .before .before .before .before .pre in (o, e)
+reduce-requires c κs = let (_, modulus, over, _, _, _) = c .before .before .before .before .pre in (omega (arith, modulus .prime .above-one), over)
 
 loop-again : tie.Need-loop-again Inv-loop μ-loop
 loop-again c =
@@ -65,7 +65,7 @@ returns c =
     let s = c .before in
     let i = s .loop .inv .1 in
     let a = s .before .before .args in
-    let (_, _, _, _, _, b, _) = s .before .before .pre in
+    let (_, _, _, _, b, _) = s .before .before .pre in
     record {
       below = record { below = λ j. by-cases (decLt j (s .loop .k)) (λ h. i .stored j h .1) (λ h. subst (λ (x : Residue). x .0 < a .p) (sym (i .kept j (omega arith))) (b .below j)) };
       sums = λ j h. i .stored j (omega arith) .0 ∙ ap (λ x. (coordinate (a .t1) j + a .c * x) % a .p) (sym (row-coordinate (a .cells .now) (a .at) j h));

@@ -21,7 +21,7 @@ size : (c : tie.Start Inv-loop μ-loop) → FullLength (c .args .t2)
 size c = search (length-mapped, needs)
 
 word-over-requires : tie.Need-word-over-requires Inv-loop μ-loop
-word-over-requires c κs = omega (arith, c .pre .0)
+word-over-requires c κs = omega (arith, c .pre .0 .prime .above-one)
 
 loop-holds : tie.Need-loop-holds Inv-loop μ-loop
 loop-holds c = filled-start (size (c .before))
@@ -30,10 +30,11 @@ mul-reduce-2 : tie.Need-mul-reduce-2 Inv-loop μ-loop
 mul-reduce-2 c =
     let s = c .before .before in
     let a = s .before .before in
-    omega (arith, product-bound (a .args .p) (a .args .c .0) (coordinate (a .args .t2) (s .loop .k)) (a .pre .1) (a .pre .2) (a .pre .3 .below (s .loop .k)))
+    let (modulus, c-below, a-below) = a .pre in
+    omega (arith, product-bound (a .args .p) (a .args .c .0) (coordinate (a .args .t2) (s .loop .k)) (modulus .size) c-below (a-below .below (s .loop .k)))
 
 reduce-requires : tie.Need-reduce-requires Inv-loop μ-loop
-reduce-requires c κs = let s = c .before .before .before in (omega (arith, s .before .pre .0), s .word-over .ensures)
+reduce-requires c κs = let s = c .before .before .before in (omega (arith, s .before .pre .0 .prime .above-one), s .word-over .ensures)
 
 loop-again : tie.Need-loop-again Inv-loop μ-loop
 loop-again c =

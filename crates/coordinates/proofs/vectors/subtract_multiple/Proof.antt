@@ -22,7 +22,7 @@ size : (c : tie.Start Inv-loop μ-loop) → FullLength (c .args .t1) × FullLeng
 size c = (search (length-mapped, needs), search (length-mapped, needs))
 
 word-over-requires : tie.Need-word-over-requires Inv-loop μ-loop
-word-over-requires c κs = omega (arith, c .pre .0)
+word-over-requires c κs = omega (arith, c .pre .0 .prime .above-one)
 
 loop-holds : tie.Need-loop-holds Inv-loop μ-loop
 loop-holds c = filled-start (size (c .before .before) .0)
@@ -31,8 +31,8 @@ loop-holds c = filled-start (size (c .before .before) .0)
 fits : (c : tie.In-loop Inv-loop μ-loop) → let s = c .before in let a = s .before .before .before .args in coordinate (a .t1) (s .loop .k) + (a .p - a .c .0) * coordinate (a .t3) (s .loop .k) < word
 fits c =
     let s = c .before in
-    let (_, m, a, _, b) = s .before .before .before .pre in
-    less-fits _ _ _ _ m (a .below (s .loop .k)) (b .below (s .loop .k))
+    let (modulus, a, _, b) = s .before .before .before .pre in
+    less-fits _ _ _ _ (modulus .size) (a .below (s .loop .k)) (b .below (s .loop .k))
 
 mul-reduce-3 : tie.Need-mul-reduce-3 Inv-loop μ-loop
 mul-reduce-3 c = omega (arith, fits c)
@@ -41,7 +41,7 @@ add-reduce : tie.Need-add-reduce Inv-loop μ-loop
 add-reduce c = omega (arith, fits c)
 
 reduce-requires : tie.Need-reduce-requires Inv-loop μ-loop
-reduce-requires c κs = let s = c .before .before .before in (omega (arith, s .before .pre .0), s .word-over .ensures)
+reduce-requires c κs = let s = c .before .before .before in (omega (arith, s .before .pre .0 .prime .above-one), s .word-over .ensures)
 
 loop-again : tie.Need-loop-again Inv-loop μ-loop
 loop-again c =
@@ -54,7 +54,7 @@ returns c =
     let i = s .loop .inv in
     let a = s .before .before .before in
     let (u, v) = size a in
-    subtracted-entries _ _ (i .whole) (filled-below i (omega arith) (omega arith)) _ _ _ u v (a .pre .3) (filled-entries i (omega arith))
+    subtracted-entries _ _ (i .whole) (filled-below i (omega arith) (omega arith)) _ _ _ u v (a .pre .2) (filled-entries i (omega arith))
 
 pub subtract-multiple-spec : {M : Type 1} → statement M
 subtract-multiple-spec =

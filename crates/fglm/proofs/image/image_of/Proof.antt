@@ -70,7 +70,7 @@ image-below c = let s = start (c .before) in subst (Below (s .args .p)) (sym (c 
 
 times-variable-requires : tie.Need-times-variable-requires
 times-variable-requires c κs = let q = quotient-of (c .before) in let g = start (c .before) .pre in
-    (g .cells-size, omega (arith, q .before .if1 .left, g .variables), g .few, omega (arith, g .modulus .prime .above-one), g .modulus .size, g .cells-below, image-below c)
+    (g .modulus, record { size = g .cells-size; below = g .cells-below }, omega (arith, q .before .if1 .left, g .variables), g .few, image-below c)
 
 returns-2 : tie.Need-returns-2
 returns-2 c =

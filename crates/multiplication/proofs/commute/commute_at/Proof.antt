@@ -23,12 +23,12 @@ row-at-requires-2 c κs = let (_, cells, i, j, d, s) = first-of (c .before) .pre
 times-variable-requires : tie.Need-times-variable-requires
 times-variable-requires c κs =
     let (modulus, cells, i, j, d, s) = origin (c .before) .pre in
-    (cells .size, i, d, omega (arith, modulus .prime .above-one), modulus .size, cells .below, rw (c .row-at .ensures, c .before .row-start .ensures) (table-row-below cells _ _ j (omega arith)))
+    (modulus, cells, i, d, rw (c .row-at .ensures, c .before .row-start .ensures) (table-row-below cells _ _ j (omega arith)))
 
 times-variable-requires-2 : tie.Need-times-variable-requires-2
 times-variable-requires-2 c κs =
     let (modulus, cells, i, j, d, s) = first-of (c .before .before) .pre in
-    (cells .size, j, d, omega (arith, modulus .prime .above-one), modulus .size, cells .below, rw (c .row-at2 .ensures, c .before .row-start2 .ensures) (table-row-below cells _ _ i (omega arith)))
+    (modulus, cells, j, d, rw (c .row-at2 .ensures, c .before .row-start2 .ensures) (table-row-below cells _ _ i (omega arith)))
 
 returns : tie.Need-returns
 returns c = λ h.

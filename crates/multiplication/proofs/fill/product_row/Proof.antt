@@ -88,12 +88,10 @@ times-variable-requires c κs =
     let d = sought r in
     let (modulus, cells, ranked, _, _) = origin d .pre in
     let (hi, hs) = inside r in (
-      cells .size,
+      modulus,
+      cells,
       omega (arith, d .variable-through .ensures .0, ranked .listing .variables),
       ranked .listing .few,
-      omega (arith, modulus .prime .above-one),
-      modulus .size,
-      cells .below,
       rw (c .row-at .ensures, c .before .row-start .ensures) (table-row-below cells _ _ hi hs),
     )
 

@@ -1,5 +1,5 @@
 -- `times_variable` meets its contract. The loop's invariant: the coordinates are the sum over the rows below r.
-use Prim.Native.Nat.{_-_, _≤_, _+_}
+use Prim.Native.Nat.{_-_, _<_, _≤_, _+_}
 use mathlib.Core.Path.{_≡_, sym, subst}
 use mathlib.Core.Logic.{⊎-elim}
 use native.Mathlib.Omega.{arith}
@@ -26,18 +26,21 @@ row-of c = c .before .before .before .before .before
 abbrev turn : tie.Joined1 Inv-loop μ-loop → tie.At-loop Inv-loop μ-loop
 turn c = c .before .before .before .before
 
+positive : (c : tie.Start Inv-loop μ-loop) → 0 < c .args .p
+positive c = omega (arith, c .pre .0 .prime .above-one)
+
 word-over-requires : tie.Need-word-over-requires Inv-loop μ-loop
-word-over-requires c κs = let (_, _, _, o, _, _, _) = c .before .pre in o
+word-over-requires c κs = positive (c .before)
 
 loop-holds : tie.Need-loop-holds Inv-loop μ-loop
-loop-holds c = let (_, _, _, o, _, _, _) = c .before .before .before .pre in (omega arith, summed-start o (c .zero .ensures))
+loop-holds c = (omega arith, summed-start (positive (c .before .before .before)) (c .zero .ensures))
 
 add-multiple-requires : tie.Need-add-multiple-requires Inv-loop μ-loop
 add-multiple-requires c κs =
     let s = row-of c in
-    let (e, u, v, l, m, t, w) = origin s .pre in
-    let below = table-row-below (record { size = e; below = t }) _ (s .loop .r) u (omega arith) in
-    (omega (arith, c .row-start .ensures), l, m, s .before .before .word-over .ensures, w .below (s .loop .r), s .loop .inv .1 .below, rw (c .row-start .ensures) below)
+    let (modulus, cells, u, v, w) = origin s .pre in
+    let below = table-row-below cells _ (s .loop .r) u (omega arith) in
+    (omega (arith, c .row-start .ensures, cells .size), modulus, s .before .before .word-over .ensures, w .below (s .loop .r), s .loop .inv .1 .below, rw (c .row-start .ensures) below)
 
 loop-again : tie.Need-loop-again Inv-loop μ-loop
 loop-again c =
@@ -51,15 +54,14 @@ loop-again c =
     )
 
 cut-requires : tie.Need-cut-requires Inv-loop μ-loop
-cut-requires c κs = let (_, _, d, _, _, _, _) = origin (c .before) .pre in d
+cut-requires c κs = let (_, _, _, d, _) = origin (c .before) .pre in d
 
 returns : tie.Need-returns Inv-loop μ-loop
 returns c =
     let s = c .before .before in
     let b = origin s in
-    let (_, _, d, o, _, _, _) = b .pre in
     let e : s .loop .r ≡ b .args .count = omega arith in
-    rw e at (summed-whole (s .loop .inv .1) o (omega arith) (rw (sym e) at (c .cut .ensures)))
+    rw e at (summed-whole (s .loop .inv .1) (positive b) (omega arith) (rw (sym e) at (c .cut .ensures)))
 
 pub times-variable-spec : {M : Type 1} → statement M
 times-variable-spec =
