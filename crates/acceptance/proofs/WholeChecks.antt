@@ -26,7 +26,7 @@ use Rattle.residue.specs.Field.{modulo}
 use Rattle.monomial.specs.Rows.{Row}
 use Rattle.monomial.specs.Orders.{variables}
 use Rattle.monomial.specs.Ordering.{monomials, Lex, Grevlex}
-use Rattle.monomial.specs.OrderLaws.{MonomialOrder}
+use Rattle.monomial.proofs.OrderLaws.{MonomialOrder}
 use Rattle.monomial.specs.declared.Monomial.{Monomial}
 use Rattle.monomial.proofs.LexOrder.{lex-order}
 use Rattle.monomial.proofs.GrevlexOrder.{grevlex-order}

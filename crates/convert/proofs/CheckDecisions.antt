@@ -14,7 +14,7 @@ use Rattle.lists.specs.Lists.{_∈_}
 use Rattle.residue.specs.Field.{Arithmetic}
 use Rattle.residue.specs.RingLaws.{Field}
 use Rattle.monomial.specs.Ordering.{Monomials, Divides}
-use Rattle.monomial.specs.OrderLaws.{MonomialLaws, MonomialOrder}
+use Rattle.monomial.proofs.OrderLaws.{MonomialLaws, MonomialOrder}
 use Rattle.groebner.specs.Polynomials.{Poly, Equal, minus, shift}
 use Rattle.groebner.specs.Lines.{Line, polynomial}
 use Rattle.groebner.specs.Criteria.{Low}

@@ -13,7 +13,7 @@ use Rattle.residue.specs.RingLaws.{Field}
 use Rattle.residue.proofs.ResidueField.{residue-ring, residue-field}
 use Rattle.monomial.specs.Quotients.{lcm}
 use Rattle.monomial.specs.Ordering.{monomials}
-use Rattle.monomial.specs.OrderLaws.{MonomialLaws}
+use Rattle.monomial.proofs.OrderLaws.{MonomialLaws}
 use Rattle.monomial.proofs.Products.{rows-laws, lcm-least}
 use Rattle.groebner.proofs.Ground.{PolynomialRing}
 use Rattle.groebner.proofs.Computing.{residue?, divides?}

@@ -13,7 +13,7 @@ use Rattle.residue.specs.Field.{Arithmetic, ZMod, modulo}
 use Rattle.monomial.specs.Rows.{Row}
 use Rattle.monomial.specs.Orders.{variables}
 use Rattle.monomial.specs.Ordering.{monomials, Lex, Grevlex}
-use Rattle.monomial.specs.OrderLaws.{MonomialOrder}
+use Rattle.monomial.proofs.OrderLaws.{MonomialOrder}
 use Rattle.monomial.proofs.LexOrder.{lex-order, variables-rank}
 use Rattle.monomial.proofs.GrevlexOrder.{grevlex-order}
 use Rattle.groebner.specs.Lines.{Line, Lines, Reducible}

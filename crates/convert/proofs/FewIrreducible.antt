@@ -13,7 +13,7 @@ use Rattle.lists.proofs.EachElement.{each-at, each-of}
 use Rattle.monomial.specs.Rows.{Row}
 use Rattle.monomial.specs.Orders.{variables}
 use Rattle.monomial.specs.Ordering.{monomials, Lex}
-use Rattle.monomial.specs.OrderLaws.{MonomialOrder}
+use Rattle.monomial.proofs.OrderLaws.{MonomialOrder}
 use Rattle.monomial.proofs.LexOrder.{lex-order, variables-rank}
 use Rattle.groebner.specs.Lines.{Line, Reducible}
 use Rattle.groebner.specs.Conversions.{Lists}

@@ -17,7 +17,7 @@ use Rattle.residue.proofs.ResidueField.{residue-ring}
 use Rattle.monomial.specs.Rows.{Row, one}
 use Rattle.monomial.specs.Orders.{variables}
 use Rattle.monomial.specs.Ordering.{monomials, Lex, Grevlex}
-use Rattle.monomial.specs.OrderLaws.{MonomialOrder}
+use Rattle.monomial.proofs.OrderLaws.{MonomialOrder}
 use Rattle.monomial.proofs.LexOrder.{lex-order, variables-rank}
 use Rattle.monomial.proofs.GrevlexOrder.{grevlex-order}
 use Rattle.groebner.specs.Polynomials.{Poly, Same, coef}

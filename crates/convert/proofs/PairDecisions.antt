@@ -9,7 +9,7 @@ use Prim.Native.Nat.{ℕ}
 use Rattle.residue.specs.Field.{Arithmetic}
 use Rattle.residue.specs.RingLaws.{Field}
 use Rattle.monomial.specs.Ordering.{Monomials, Divides, Lcm}
-use Rattle.monomial.specs.OrderLaws.{MonomialOrder}
+use Rattle.monomial.proofs.OrderLaws.{MonomialOrder}
 use Rattle.groebner.specs.Polynomials.{Poly, all-nil, Same, coef, minus, shift, scale, negate, relabel}
 use Rattle.groebner.specs.Lines.{Line, polynomial}
 use Rattle.groebner.specs.Criteria.{Low}

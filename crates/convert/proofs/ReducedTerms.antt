@@ -11,7 +11,7 @@ use Prim.Native.Nat.{ℕ, zero, suc}
 use Rattle.residue.specs.Field.{Arithmetic}
 use Rattle.residue.specs.RingLaws.{Field}
 use Rattle.monomial.specs.Ordering.{Monomials, Divides}
-use Rattle.monomial.specs.OrderLaws.{MonomialOrder}
+use Rattle.monomial.proofs.OrderLaws.{MonomialOrder}
 use Rattle.groebner.specs.Polynomials.{Poly, Same, coef, relabel, scale, shift, δ}
 use Rattle.groebner.specs.Lines.{Line, polynomial, Earliest}
 use Rattle.groebner.specs.Criteria.{Low}

@@ -18,7 +18,7 @@ use Rattle.residue.specs.Field.{Arithmetic}
 use Rattle.monomial.specs.Sizes.{most-variables, most-exponent}
 use Rattle.monomial.specs.Rows.{Row, exponent}
 use Rattle.monomial.specs.Ordering.{Divides, monomials}
-use Rattle.monomial.specs.OrderLaws.{MonomialOrder}
+use Rattle.monomial.proofs.OrderLaws.{MonomialOrder}
 use Rattle.monomial.proofs.AnyOrder.{asymmetric, irreflexive, divisor-below}
 use Rattle.monomial.proofs.Products.{rows-laws}
 use Rattle.groebner.specs.Polynomials.{Poly, Polynomial}

@@ -1,4 +1,5 @@
 -- The terms of the line that the code writes for a dependent monomial.
+--   termsAs p h n ts              terms of the code as terms of a polynomial
 --   LessTerm p g c m r            r is the line g less c·m, which comes after the terms of g
 --   less-none, less-more          such lines, where the coefficient is zero and where it is not
 --   LineArrays g, arrays-stored   the arrays of a line have most-terms places, also after a store
@@ -8,7 +9,7 @@
 --   writing-start, writing-turn, writing-stop
 use mathlib.Core.Path.{_≡_, sym, _∙_, ap, ap₂, subst}
 use mathlib.Core.Logic.{by-cases}
-use mathlib.Core.List.{List, [], _∷_, _++_, map-append, append-nil, append-assoc}
+use mathlib.Core.List.{List, [], _∷_, _++_, map, map-append, append-nil, append-assoc}
 use Prim.Native.Nat.{ℕ, suc, _+_, _-_, _≤_, _<_}
 use native.Mathlib.Nat.{mod-eq-of-lt}
 use native.Mathlib.Decide.{ℕ-discrete}
@@ -46,8 +47,12 @@ use Rattle.coordinates.specs.Vectors.{coordinate, vector, FullLength}
 use Rattle.coordinates.specs.declared.Coordinates.{Coordinates}
 use Rattle.coordinates.proofs.VectorEntries.{vector-entry, length-vector}
 use Rattle.fglm.specs.Found.{PrintableLine}
-use Rattle.fglm.specs.WrittenLines.{termsAs, WrittenLine}
+use Rattle.fglm.specs.WrittenLines.{WrittenLine}
 use Rattle.fglm.proofs.PlacedTerms.{placed, placed-ordered}
+
+-- Terms of the code as terms of a polynomial.
+abbrev pub termsAs : (p : ℕ) → 1 < p → (n : ℕ) → List Term → Poly (ZMod p) (Row n)
+termsAs p h n ts = map (λ (u : Term). (residue p h (u .0), asRow n (u .1))) ts
 
 negation-positive : (p c : ℕ) → 0 < c → c < p → negationMod p c ≡ p - c
 unfolding negationMod

@@ -15,7 +15,7 @@ use Rattle.residue.proofs.ResidueField.{residue-ring}
 use Rattle.residue.proofs.Residues.{residue-zero, residue-one}
 use Rattle.monomial.specs.Rows.{Row, one}
 use Rattle.monomial.specs.Ordering.{monomials}
-use Rattle.monomial.specs.OrderLaws.{MonomialOrder}
+use Rattle.monomial.proofs.OrderLaws.{MonomialOrder}
 use Rattle.monomial.specs.Represented.{row}
 use Rattle.monomial.specs.declared.Monomial.{Monomial}
 use Rattle.groebner.specs.Polynomials.{δ}

@@ -30,7 +30,7 @@ use Rattle.residue.proofs.ResidueField.{residue-field}
 use Rattle.monomial.specs.Rows.{Row, one, exponent, product}
 use Rattle.monomial.specs.Quotients.{variable}
 use Rattle.monomial.specs.Ordering.{monomials, Lex, Grevlex}
-use Rattle.monomial.specs.OrderLaws.{MonomialOrder}
+use Rattle.monomial.proofs.OrderLaws.{MonomialOrder}
 use Rattle.monomial.specs.Represented.{row}
 use Rattle.monomial.specs.declared.Monomial.{Monomial}
 use Rattle.monomial.proofs.AnyOrder.{irreflexive, one-least}

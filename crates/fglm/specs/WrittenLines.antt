@@ -1,14 +1,12 @@
 -- Inner contracts. The line of a monomial that depends on standard monomials, as the code writes it.
---   termsAs p h n ts         terms of the code as terms of a polynomial
 --   combined p h n l c       Σ c_k·l_k, the combination c of the monomials l
 --   LineInput p n m c l      what the line asks: coefficients below p, and monomials padded to n variables
 --   WrittenLine p n m c l r  r is the line m - Σ c_k·l_k, its tail in the order of the monomials l
 use mathlib.Core.Path.{_≡_}
-use mathlib.Core.List.{List, map}
 use Prim.Native.Nat.{ℕ, _≤_, _<_}
 use lib.ListN.{take}
 use Rattle.lists.specs.Lists.{Each, Once}
-use Rattle.residue.specs.Field.{ZMod, modulo, residue}
+use Rattle.residue.specs.Field.{ZMod, modulo}
 use Rattle.residue.specs.RingLaws.{Field}
 use Rattle.monomial.specs.Rows.{Row}
 use Rattle.monomial.specs.Ordering.{monomials}
@@ -18,7 +16,6 @@ use Rattle.groebner.specs.Polynomials.{Poly, negate}
 use Rattle.groebner.specs.CoefficientRows.{polynomialOf}
 use Rattle.groebner.specs.OrderedTails.{ordered-line}
 use Rattle.lines.specs.Sizes.{most-standard}
-use Rattle.lines.specs.Terms.{Term, asRow}
 use Rattle.lines.specs.LineTerms.{termsIn}
 use Rattle.lines.specs.Bases.{Padded}
 use Rattle.lines.specs.declared.line.Generator.{Generator}
@@ -28,10 +25,6 @@ use Rattle.staircase.specs.declared.irreducible.Irreducibles.{Irreducibles}
 use Rattle.coordinates.specs.Vectors.{Below, vector}
 use Rattle.coordinates.specs.declared.Coordinates.{Coordinates}
 use Rattle.fglm.specs.Found.{PrintableLine}
-
--- Terms of the code as terms of a polynomial.
-abbrev pub termsAs : (p : ℕ) → 1 < p → (n : ℕ) → List Term → Poly (ZMod p) (Row n)
-termsAs p h n ts = map (λ (u : Term). (residue p h (u .0), asRow n (u .1))) ts
 
 -- The combination c of the monomials l.
 abbrev pub combined : (p : ℕ) → 1 < p → (n : ℕ) → Irreducibles → Coordinates → Poly (ZMod p) (Row n)

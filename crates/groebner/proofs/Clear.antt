@@ -7,7 +7,7 @@ use Rattle.lists.specs.Lists.{_∈_, Once}
 use Rattle.lists.specs.Pairs.{Before}
 use Rattle.residue.specs.Field.{Arithmetic}
 use Rattle.monomial.specs.Ordering.{Monomials, Divides}
-use Rattle.monomial.specs.OrderLaws.{MonomialLaws}
+use Rattle.monomial.proofs.OrderLaws.{MonomialLaws}
 use Rattle.groebner.specs.Polynomials.{All, all-cons}
 use Rattle.groebner.specs.Lines.{Line, polynomial}
 use Rattle.groebner.specs.Criteria.{Clear}

@@ -8,7 +8,7 @@ use Rattle.lists.specs.Lists.{_∈_}
 use Rattle.lists.specs.Pairs.{Before}
 use Rattle.residue.specs.Field.{Arithmetic}
 use Rattle.monomial.specs.Ordering.{Monomials, Divides}
-use Rattle.monomial.specs.OrderLaws.{MonomialOrder}
+use Rattle.monomial.proofs.OrderLaws.{MonomialOrder}
 use Rattle.groebner.specs.Polynomials.{All}
 use Rattle.groebner.specs.Lines.{Line, polynomial, Reducible}
 use Rattle.groebner.specs.Criteria.{Clear, Low}

@@ -17,7 +17,7 @@ use Rattle.residue.specs.RingLaws.{Field}
 use Rattle.monomial.specs.Rows.{Row}
 use Rattle.monomial.specs.Quotients.{variable}
 use Rattle.monomial.specs.Ordering.{Monomials, Divides, monomials}
-use Rattle.monomial.specs.OrderLaws.{MonomialOrder}
+use Rattle.monomial.proofs.OrderLaws.{MonomialOrder}
 use Rattle.groebner.specs.Polynomials.{Poly, All, shift, coef}
 use Rattle.groebner.specs.Lines.{Line, polynomial, Reducible}
 use Rattle.groebner.specs.Criteria.{Low}

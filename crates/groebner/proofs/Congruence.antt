@@ -12,7 +12,7 @@ use mathlib.Core.Logic.{_↔_}
 use Rattle.residue.specs.Field.{Arithmetic}
 use Rattle.residue.specs.RingLaws.{Field}
 use Rattle.monomial.specs.Ordering.{Monomials}
-use Rattle.monomial.specs.OrderLaws.{MonomialOrder}
+use Rattle.monomial.proofs.OrderLaws.{MonomialOrder}
 use Rattle.groebner.specs.Polynomials.{Poly, Polynomial, Equal, negate, minus, shift, times, δ, coef, Same, IsSum, IsProduct}
 use Rattle.groebner.specs.Lines.{Line}
 use Rattle.groebner.specs.Criteria.{Low}

@@ -14,7 +14,7 @@ use Rattle.lists.specs.Pairs.{Before}
 use Rattle.residue.specs.Field.{Arithmetic}
 use Rattle.residue.specs.RingLaws.{Field}
 use Rattle.monomial.specs.Ordering.{Monomials, Lcm}
-use Rattle.monomial.specs.OrderLaws.{MonomialOrder}
+use Rattle.monomial.proofs.OrderLaws.{MonomialOrder}
 use Rattle.groebner.specs.Polynomials.{Poly, all-nil, relabel, negate, minus, δ, coef}
 use Rattle.groebner.specs.Lines.{Line}
 use Rattle.groebner.specs.Criteria.{Low}

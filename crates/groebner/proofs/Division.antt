@@ -13,7 +13,7 @@ use Rattle.lists.specs.Lists.{_∈_}
 use Rattle.residue.specs.Field.{Arithmetic}
 use Rattle.residue.specs.RingLaws.{Field}
 use Rattle.monomial.specs.Ordering.{Monomials, Divides}
-use Rattle.monomial.specs.OrderLaws.{MonomialOrder}
+use Rattle.monomial.proofs.OrderLaws.{MonomialOrder}
 use Rattle.monomial.proofs.AnyOrder.{irreflexive, asymmetric}
 use Rattle.groebner.specs.Polynomials.{Poly, All, all-cons, Polynomial, Equal, Same, coef, relabel, scale, minus, shift}
 use Rattle.groebner.specs.Lines.{Line, polynomial, Reducible, Earliest}

@@ -31,7 +31,7 @@ use lib.ListN.{length, length-append}
 use Rattle.residue.specs.Field.{Arithmetic}
 use Rattle.monomial.specs.Rows.{Row, one, exponent}
 use Rattle.monomial.specs.Ordering.{monomials}
-use Rattle.monomial.specs.OrderLaws.{MonomialOrder}
+use Rattle.monomial.proofs.OrderLaws.{MonomialOrder}
 use Rattle.monomial.proofs.AnyOrder.{one-least}
 use Rattle.monomial.proofs.Products.{rows-laws}
 use Rattle.groebner.specs.Polynomials.{Poly, negate}

@@ -16,7 +16,7 @@ use Rattle.residue.specs.Field.{Arithmetic}
 use Rattle.residue.specs.RingLaws.{Field}
 use Rattle.monomial.specs.Rows.{Row}
 use Rattle.monomial.specs.Ordering.{Monomials, Divides, monomials}
-use Rattle.monomial.specs.OrderLaws.{MonomialOrder}
+use Rattle.monomial.proofs.OrderLaws.{MonomialOrder}
 use Rattle.monomial.proofs.AnyOrder.{irreflexive}
 use Rattle.groebner.specs.Polynomials.{All, Polynomial, coef, Same}
 use Rattle.groebner.specs.Lines.{Line, polynomial, Falling, Reducible, Rising}

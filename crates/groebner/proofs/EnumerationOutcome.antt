@@ -14,7 +14,7 @@ use Rattle.residue.specs.Field.{Arithmetic}
 use Rattle.residue.specs.RingLaws.{Field}
 use Rattle.monomial.specs.Rows.{Row, one}
 use Rattle.monomial.specs.Ordering.{monomials}
-use Rattle.monomial.specs.OrderLaws.{MonomialOrder}
+use Rattle.monomial.proofs.OrderLaws.{MonomialOrder}
 use Rattle.groebner.specs.Lines.{Line, Reducible}
 use Rattle.groebner.specs.Criteria.{Low}
 use Rattle.groebner.specs.Bases.{Groebner}

@@ -21,7 +21,7 @@ use Rattle.lists.specs.Lists.{_∈_}
 use Rattle.residue.specs.Field.{Arithmetic}
 use Rattle.monomial.specs.Rows.{Row, exponent}
 use Rattle.monomial.specs.Ordering.{Divides, monomials}
-use Rattle.monomial.specs.OrderLaws.{MonomialOrder}
+use Rattle.monomial.proofs.OrderLaws.{MonomialOrder}
 use Rattle.groebner.specs.Lines.{Line, Reducible, Rising}
 use Rattle.groebner.specs.RisingLists.{ListsRising, leads}
 use Rattle.groebner.proofs.Modules.{Module}

@@ -6,7 +6,7 @@ use Prim.Native.Nat.{ℕ}
 use Rattle.residue.specs.Field.{Arithmetic}
 use Rattle.monomial.specs.Rows.{Row}
 use Rattle.monomial.specs.Ordering.{monomials}
-use Rattle.monomial.specs.OrderLaws.{MonomialOrder}
+use Rattle.monomial.proofs.OrderLaws.{MonomialOrder}
 use Rattle.groebner.specs.Lines.{Line}
 use Rattle.groebner.proofs.Modules.{Module}
 use Rattle.groebner.proofs.Spans.{Shifts}

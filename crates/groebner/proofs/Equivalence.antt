@@ -5,7 +5,7 @@ use mathlib.Core.List.{_++_}
 use Rattle.residue.specs.Field.{Arithmetic}
 use Rattle.residue.specs.RingLaws.{Field}
 use Rattle.monomial.specs.Ordering.{Monomials}
-use Rattle.monomial.specs.OrderLaws.{MonomialOrder}
+use Rattle.monomial.proofs.OrderLaws.{MonomialOrder}
 use Rattle.groebner.specs.Polynomials.{Poly, Polynomial, Equal, Same, minus, times}
 use Rattle.groebner.specs.Remainders.{done}
 use Rattle.groebner.specs.Ideals.{IdealOf, SameIdeal}

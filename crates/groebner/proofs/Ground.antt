@@ -9,7 +9,7 @@ use mathlib.Core.WellFounded.{WellFounded·induction}
 use Rattle.residue.specs.Field.{Arithmetic}
 use Rattle.residue.specs.RingLaws.{Field}
 use Rattle.monomial.specs.Ordering.{Monomials, Divides}
-use Rattle.monomial.specs.OrderLaws.{MonomialLaws, MonomialOrder}
+use Rattle.monomial.proofs.OrderLaws.{MonomialLaws, MonomialOrder}
 use Rattle.monomial.proofs.AnyOrder.{cancel}
 
 -- A field of coefficients, and monomials with their laws.

@@ -13,7 +13,7 @@ use mathlib.Core.Logic.{_↔_}
 use Rattle.residue.specs.Field.{Arithmetic}
 use Rattle.residue.specs.RingLaws.{Ring, Field}
 use Rattle.monomial.specs.Ordering.{Monomials}
-use Rattle.monomial.specs.OrderLaws.{MonomialOrder}
+use Rattle.monomial.proofs.OrderLaws.{MonomialOrder}
 use Rattle.groebner.specs.Polynomials.{Poly, All, all-nil, all-cons, Polynomial, relabel, scale, negate, minus, shift, coef}
 use Rattle.groebner.specs.Lines.{Line}
 use Rattle.groebner.specs.Criteria.{Low}

@@ -16,7 +16,7 @@ use Rattle.residue.specs.Prime.{Prime}
 use Rattle.residue.specs.Field.{Arithmetic, ZMod, modulo}
 use Rattle.residue.proofs.ResidueField.{residue-field}
 use Rattle.monomial.specs.Rows.{Row, one}
-use Rattle.monomial.specs.OrderLaws.{Ranks}
+use Rattle.monomial.proofs.OrderLaws.{Ranks}
 use Rattle.monomial.specs.Ordering.{monomials, Lex, Grevlex}
 use Rattle.monomial.proofs.Products.{rows-laws}
 use Rattle.monomial.proofs.LexOrder.{lex-order}

@@ -15,7 +15,7 @@ use lib.ListN.{length, length-append}
 use Rattle.lists.specs.Lists.{_∈_}
 use Rattle.monomial.specs.Rows.{Row, one}
 use Rattle.monomial.specs.Ordering.{monomials}
-use Rattle.monomial.specs.OrderLaws.{MonomialOrder}
+use Rattle.monomial.proofs.OrderLaws.{MonomialOrder}
 use Rattle.monomial.proofs.AnyOrder.{one-least}
 use Rattle.monomial.proofs.Products.{exponent-one, divisible-at, rows-laws}
 use Rattle.groebner.specs.Lines.{Line, Reducible, RisingList}

@@ -12,7 +12,7 @@ use Rattle.lists.specs.Lists.{_∈_}
 use Rattle.residue.specs.Field.{Arithmetic}
 use Rattle.residue.specs.RingLaws.{Field}
 use Rattle.monomial.specs.Ordering.{Monomials, Divides}
-use Rattle.monomial.specs.OrderLaws.{MonomialOrder}
+use Rattle.monomial.proofs.OrderLaws.{MonomialOrder}
 use Rattle.groebner.specs.Polynomials.{Poly, all-nil, all-cons, relabel, scale, expand, shift, times, δ, coef, Same}
 use Rattle.groebner.specs.Lines.{Line, polynomial, Lines, Reducible}
 use Rattle.groebner.specs.Ideals.{IdealOf}

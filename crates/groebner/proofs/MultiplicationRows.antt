@@ -20,7 +20,7 @@ use Rattle.residue.specs.RingLaws.{Field}
 use Rattle.monomial.specs.Rows.{Row, one, product}
 use Rattle.monomial.specs.Quotients.{variable}
 use Rattle.monomial.specs.Ordering.{monomials}
-use Rattle.monomial.specs.OrderLaws.{MonomialOrder}
+use Rattle.monomial.proofs.OrderLaws.{MonomialOrder}
 use Rattle.monomial.proofs.Products.{product-comm, one-product}
 use Rattle.groebner.specs.Polynomials.{All, δ, coef}
 use Rattle.groebner.specs.Lines.{Line, Reducible}

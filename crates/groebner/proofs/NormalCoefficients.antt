@@ -21,7 +21,7 @@ use Rattle.lists.specs.Lists.{_∈_}
 use Rattle.residue.specs.Field.{Arithmetic}
 use Rattle.residue.specs.RingLaws.{Ring, Field}
 use Rattle.monomial.specs.Ordering.{Monomials}
-use Rattle.monomial.specs.OrderLaws.{MonomialOrder}
+use Rattle.monomial.proofs.OrderLaws.{MonomialOrder}
 use Rattle.groebner.specs.Polynomials.{Poly, All, all-nil, all-cons, negate, shift, δ, coef}
 use Rattle.groebner.specs.Lines.{Line, polynomial, Reducible}
 use Rattle.groebner.specs.Criteria.{Low}

@@ -18,7 +18,7 @@ use mathlib.Core.WellFounded.{WellFounded, WellFounded·induction, fix, fix-eq}
 use Rattle.residue.specs.Field.{Arithmetic}
 use Rattle.residue.specs.RingLaws.{Ring}
 use Rattle.monomial.specs.Ordering.{Monomials}
-use Rattle.monomial.specs.OrderLaws.{MonomialLaws}
+use Rattle.monomial.proofs.OrderLaws.{MonomialLaws}
 use Rattle.groebner.specs.Polynomials.{Poly, All, all-nil, all-cons, relabel, scale, negate, shift, expand, δ, coef, Same}
 use Rattle.groebner.proofs.Modules.{Module, self, exchange-difference, opposite-null}
 use Rattle.groebner.proofs.Linear.{all-map, all-true, all-scale, all-relabel, all-expand, lin, lin-append, lin-scale, lin-negate, lin-relabel, lin-expand, lin-on, lin-plus, lin-opposite, coef-lin, lin-same}

@@ -9,7 +9,7 @@ use Rattle.lists.specs.Lists.{_∈_}
 use Rattle.residue.specs.Field.{Arithmetic}
 use Rattle.residue.specs.RingLaws.{Field}
 use Rattle.monomial.specs.Ordering.{Monomials}
-use Rattle.monomial.specs.OrderLaws.{MonomialOrder}
+use Rattle.monomial.proofs.OrderLaws.{MonomialOrder}
 use Rattle.groebner.specs.Polynomials.{Poly, Polynomial, coef}
 use Rattle.groebner.specs.Lines.{Line, polynomial}
 use Rattle.groebner.specs.Criteria.{Low}

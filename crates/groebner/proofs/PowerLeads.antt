@@ -16,7 +16,7 @@ use Rattle.lists.specs.Pairs.{Before}
 use Rattle.residue.specs.Field.{Arithmetic}
 use Rattle.monomial.specs.Rows.{Row, exponent, power}
 use Rattle.monomial.specs.Ordering.{Divides, monomials, row?}
-use Rattle.monomial.specs.OrderLaws.{MonomialOrder}
+use Rattle.monomial.proofs.OrderLaws.{MonomialOrder}
 use Rattle.monomial.proofs.Products.{exponent-product, divisible-at}
 use Rattle.monomial.proofs.Powers.{exponent-power, exponent-power-other, power-divides}
 use Rattle.groebner.specs.Polynomials.{All, all-cons}

@@ -12,7 +12,7 @@ use mathlib.Core.List.{List, [], _∷_, _++_, List·Memᴰ·head, List·Memᴰ·
 use mathlib.Core.Logic.{_⊎_, inl, inr}
 use Rattle.lists.specs.Lists.{_∈_, Once}
 use Rattle.monomial.specs.Ordering.{Monomials}
-use Rattle.monomial.specs.OrderLaws.{MonomialOrder}
+use Rattle.monomial.proofs.OrderLaws.{MonomialOrder}
 use Rattle.monomial.proofs.AnyOrder.{asymmetric, irreflexive}
 use Rattle.groebner.specs.Lines.{Line, Rising, RisingList}
 use Rattle.groebner.specs.Conversions.{Lists}

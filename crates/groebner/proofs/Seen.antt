@@ -26,7 +26,7 @@ use Rattle.lists.specs.Lists.{_∈_, Once}
 use Rattle.residue.specs.Field.{Arithmetic}
 use Rattle.monomial.specs.Rows.{Row}
 use Rattle.monomial.specs.Ordering.{Divides, monomials}
-use Rattle.monomial.specs.OrderLaws.{MonomialOrder}
+use Rattle.monomial.proofs.OrderLaws.{MonomialOrder}
 use Rattle.monomial.proofs.AnyOrder.{irreflexive, divisor-below}
 use Rattle.monomial.proofs.Products.{rows-laws}
 use Rattle.groebner.specs.Polynomials.{Poly, All, negate}

@@ -12,7 +12,7 @@ use mathlib.Core.WellFounded.{WellFounded·induction}
 use Rattle.residue.specs.Field.{Arithmetic}
 use Rattle.residue.specs.RingLaws.{Field}
 use Rattle.monomial.specs.Ordering.{Monomials, Divides}
-use Rattle.monomial.specs.OrderLaws.{MonomialOrder}
+use Rattle.monomial.proofs.OrderLaws.{MonomialOrder}
 use Rattle.groebner.specs.Polynomials.{Poly, All, all-nil, all-cons, scale, shift, δ, coef}
 use Rattle.groebner.proofs.Modules.{Module, null-plus, opposite-unique, zero-act, neg-act, act-opposite, opposite-opposite, mul-zero}
 use Rattle.groebner.proofs.Linear.{all-append, all-map, all-both, all-scale, all-relabel, all-without, without, without-off, lin, lin-append, lin-scale, lin-split, coef-split}

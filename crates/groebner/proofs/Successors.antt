@@ -11,7 +11,7 @@ use mathlib.Core.Bool.{Bool, true, false}
 use mathlib.Core.Logic.{_⊎_, inl, inr}
 use mathlib.Core.Option.{Option, none, some}
 use Rattle.monomial.specs.Ordering.{Monomials, Divides}
-use Rattle.monomial.specs.OrderLaws.{MonomialOrder}
+use Rattle.monomial.proofs.OrderLaws.{MonomialOrder}
 
 -- The multiples of an excluded monomial are excluded.
 abbrev pub Closed : {M : Type 0} → Monomials M → (M → Bool) → Type 0

@@ -23,7 +23,7 @@ use Rattle.lists.specs.Lists.{_∈_}
 use Rattle.monomial.specs.Rows.{Row, exponent, one, product}
 use Rattle.monomial.specs.Quotients.{quotient, variable}
 use Rattle.monomial.specs.Ordering.{Divides, monomials}
-use Rattle.monomial.specs.OrderLaws.{MonomialOrder}
+use Rattle.monomial.proofs.OrderLaws.{MonomialOrder}
 use Rattle.monomial.proofs.Products.{exponent-product, product-assoc, product-comm, one-product, quotient-product, rows-laws}
 use Rattle.monomial.proofs.AnyOrder.{divisor-below}
 use Rattle.monomial.proofs.Powers.{exponent-power, exponent-power-other, power-divides}

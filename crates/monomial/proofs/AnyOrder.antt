@@ -10,7 +10,7 @@ use mathlib.Core.Path.{_≡_, _∙_}
 use mathlib.Core.Logic.{_⊎_, inl, inr, ⊎-elim}
 use mathlib.Core.WellFounded.{WellFounded, WellFounded·induction}
 use Rattle.monomial.specs.Ordering.{Monomials, Divides}
-use Rattle.monomial.specs.OrderLaws.{MonomialLaws, MonomialOrder}
+use Rattle.monomial.proofs.OrderLaws.{MonomialLaws, MonomialOrder}
 
 -- A well-founded relation has no cycle of two or of three.
 module _ {M : Type 0} {lt : M → M → Type 0} (wf : WellFounded lt) where

@@ -24,7 +24,7 @@ use lib.WfN.{Nat·lt-wfRel}
 use borrow.Author.Tests.{ltb-true, ltb-false, lt-ltb, le-ltb}
 use Rattle.monomial.specs.Orders.{compared}
 use Rattle.monomial.specs.Ordering.{Monomials, LessBy}
-use Rattle.monomial.specs.OrderLaws.{MonomialOrder}
+use Rattle.monomial.proofs.OrderLaws.{MonomialOrder}
 use Rattle.monomial.specs.declared.order.Comparison.{Comparison}
 use Rattle.monomial.specs.declared.order.Comparison.the-variants.{Less, Equal, Greater}
 use Rattle.monomial.proofs.AnyOrder.{transitive-of}

@@ -18,7 +18,7 @@ use native.Mathlib.Omega.{arith}
 use Rattle.monomial.specs.Rows.{Row, exponent, product, degree}
 use Rattle.monomial.specs.Orders.{compared, lex, backwards, grevlex}
 use Rattle.monomial.specs.Ordering.{monomials, LessBy}
-use Rattle.monomial.specs.OrderLaws.{MonomialOrder}
+use Rattle.monomial.proofs.OrderLaws.{MonomialOrder}
 use Rattle.monomial.specs.declared.order.Comparison.the-variants.{Less, Equal, Greater}
 use Rattle.monomial.proofs.Products.{degree-product}
 use Rattle.monomial.proofs.Comparisons.{compared-equal, compared-sum, equal-not-less, equal-not-greater, then, then-less, then-equal, then-greater}

@@ -25,7 +25,7 @@ use lib.ListN.{length, getD}
 use Rattle.monomial.specs.Rows.{Row, exponent, product}
 use Rattle.monomial.specs.Orders.{compared, lex, variablesFrom, variables, backwards}
 use Rattle.monomial.specs.Ordering.{monomials, LessBy}
-use Rattle.monomial.specs.OrderLaws.{MonomialOrder, Ranks}
+use Rattle.monomial.proofs.OrderLaws.{MonomialOrder, Ranks}
 use Rattle.monomial.specs.declared.order.Comparison.the-variants.{Less, Equal, Greater}
 use Rattle.monomial.proofs.Products.{row-extensional, exponent-product}
 use Rattle.monomial.proofs.Comparisons.{compared-sum, equal-not-less, equal-not-greater, then, then-less, then-equal, then-greater, otherwise, below-wf, comparison-order}

@@ -4,6 +4,7 @@
 --   Products       products, quotients, divisibility and least common multiples
 --   Powers         powers of one variable
 --   Variables      the variables as monomials of the code
+--   OrderLaws      monomial orderings (001, definition 1.4), and what the theory asks of monomials
 --   AnyOrder       what holds of every monomial ordering
 --   Comparisons    two numbers compared, and what decides where they are equal
 --   LexOrder       lex is a monomial ordering, for every ranking of the variables
@@ -19,6 +20,7 @@ pub mod Filling
 pub mod Products
 pub mod Powers
 pub mod Variables
+pub mod OrderLaws
 pub mod AnyOrder
 pub mod Comparisons
 pub mod LexOrder

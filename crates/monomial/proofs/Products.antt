@@ -26,7 +26,7 @@ use borrow.Author.Tests.{leb-true, le-leb, eqb-true, eq-eqb}
 use Rattle.monomial.specs.Rows.{Row, exponent, one, product, degree}
 use Rattle.monomial.specs.Quotients.{quotient, lcm, divides, isOne, isPower}
 use Rattle.monomial.specs.Ordering.{Divides, Lcm, monomials}
-use Rattle.monomial.specs.OrderLaws.{MonomialLaws}
+use Rattle.monomial.proofs.OrderLaws.{MonomialLaws}
 
 pub row-extensional : (n : ℕ) {a b : Row n} → ((i : ℕ) → i < n → exponent n a i ≡ exponent n b i) → a ≡ b
 unfolding exponent

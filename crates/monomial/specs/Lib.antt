@@ -6,7 +6,6 @@
 --   Ordering        monomials as a structure, and the orders as relations
 -- Inner contracts:
 --   Quotients       quotients, least common multiples, divisibility, powers of a variable
---   OrderLaws       monomial orderings (001, definition 1.4), and what the theory asks of monomials
 --   Represented     the row that a value of the code holds
 --   FirstVariable   the first variable of a monomial
 --   Least           the place with the least value
@@ -16,7 +15,6 @@ pub mod Rows
 pub mod Quotients
 pub mod Orders
 pub mod Ordering
-pub mod OrderLaws
 pub mod Represented
 pub mod FirstVariable
 pub mod Least

@@ -15,7 +15,7 @@ use Rattle.residue.specs.RingLaws.{Ring}
 use Rattle.monomial.specs.Rows.{Row, product}
 use Rattle.monomial.specs.Quotients.{variable}
 use Rattle.monomial.specs.Ordering.{monomials}
-use Rattle.monomial.specs.OrderLaws.{MonomialOrder}
+use Rattle.monomial.proofs.OrderLaws.{MonomialOrder}
 use Rattle.monomial.proofs.AnyOrder.{asymmetric}
 use Rattle.groebner.specs.Lines.{Line, Reducible}
 use Rattle.groebner.specs.Criteria.{Low}

@@ -14,7 +14,7 @@ use Rattle.lists.specs.Pairs.{Before}
 use Rattle.lists.proofs.Elements.{at-in, at-of}
 use Rattle.residue.specs.Field.{Arithmetic}
 use Rattle.monomial.specs.Ordering.{Monomials, Divides}
-use Rattle.monomial.specs.OrderLaws.{MonomialLaws}
+use Rattle.monomial.proofs.OrderLaws.{MonomialLaws}
 use Rattle.groebner.specs.Polynomials.{All}
 use Rattle.groebner.specs.Lines.{Line, polynomial}
 use Rattle.groebner.specs.Criteria.{Clear}

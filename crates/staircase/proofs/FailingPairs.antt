@@ -6,7 +6,7 @@ use Prim.Native.Nat.{ℕ, suc}
 use native.Mathlib.Omega.{arith}
 use Rattle.residue.specs.Field.{Arithmetic}
 use Rattle.monomial.specs.Ordering.{Monomials}
-use Rattle.monomial.specs.OrderLaws.{MonomialOrder}
+use Rattle.monomial.proofs.OrderLaws.{MonomialOrder}
 use Rattle.groebner.specs.Polynomials.{Poly}
 use Rattle.groebner.specs.Lines.{Line}
 use Rattle.groebner.specs.Remainders.{Remainder}

@@ -17,7 +17,7 @@ use Rattle.residue.specs.declared.Residue.{Residue}
 use Rattle.monomial.specs.Rows.{Row, one}
 use Rattle.monomial.specs.Represented.{row}
 use Rattle.monomial.specs.Ordering.{Monomials, Grevlex}
-use Rattle.monomial.specs.OrderLaws.{MonomialOrder}
+use Rattle.monomial.proofs.OrderLaws.{MonomialOrder}
 use Rattle.monomial.specs.declared.Monomial.{Monomial}
 use Rattle.monomial.proofs.AnyOrder.{irreflexive}
 use Rattle.monomial.proofs.GrevlexOrder.{grevlex-order}

@@ -1,4 +1,4 @@
--- Inner contracts. What the theory asks of monomials and of their orders.
+-- What the theory asks of monomials and of their orders.
 --   MonomialLaws 𝓜       what the theory asks of monomials
 --   MonomialOrder 𝓜 lt   lt is a monomial ordering (001, definition 1.4)
 --   Ranks n s            the list s ranks all n variables
