@@ -1,6 +1,8 @@
 // Checks 12 to 15, in their order, on a basis that passed 2 to 11.
 //
 //   text    checks 2 to 15 of a text
+#![tactic(auto)]
+
 pub mod text;
 
 ghost use Rattle.std.specs.Prelude.{◌≡◌};
@@ -24,7 +26,7 @@ use staircase::leads::Leads;
 use staircase::sort::by_grevlex;
 
 // The verdict on a text, the shape of the basis that it holds, and if it passes the irreducible monomials in rising grevlex order.
-#[derive(Drop)]
+#[derive(Clone, Copy)]
 pub struct TextCheck {
     pub verdict: Verdict,
     pub shape: Shape,

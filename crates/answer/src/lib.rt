@@ -4,11 +4,13 @@
 //   Check     what the checks of one line say
 //   Verdict   what the checks of a text say
 //   Answer    what a routine that writes an output says
+#![tactic(auto)]
+
 ghost use Rattle.std.specs.Prelude.{◌≡◌};
 ghost use Rattle.answer.specs.Refusals.{number};
 
 // In the order of their numbers, 1 to 16.
-#[derive(Drop)]
+#[derive(Clone, Copy)]
 pub enum Refusal {
     InputTooLong,
     BadLine,
@@ -29,21 +31,21 @@ pub enum Refusal {
 }
 
 // What the checks of one line say.
-#[derive(Drop)]
+#[derive(Clone, Copy)]
 pub enum Check {
     Pass,
     Refuse(Refusal),
 }
 
 // Passed, or a refusal and its line.
-#[derive(Drop)]
+#[derive(Clone, Copy)]
 pub enum Verdict {
     Passed,
     Refused(Refusal, usize),
 }
 
 // Accepted with the length written, or a refusal and its line.
-#[derive(Drop)]
+#[derive(Clone, Copy)]
 pub enum Answer {
     Accepted(usize),
     Refused(Refusal, usize),

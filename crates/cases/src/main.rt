@@ -1,5 +1,7 @@
 // Runs the stored cases. For each text that an argument names it prints the name and what `juirkes` prints for that text; for an accepted one also what
 // an output that is a byte too short gives, and one of exactly its length.
+#![tactic(auto)]
+
 ghost use Rattle.std.specs.Prelude.{◌≡◌, length};
 ghost use Rattle.tabtext.specs.Sizes.{most_bytes};
 

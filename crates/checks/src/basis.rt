@@ -16,14 +16,14 @@ use lines::store::put_line;
 use tabtext::record::{Kind, Read, read_record};
 
 // After a line: the text goes on at a place, or the verdict.
-#[derive(Drop)]
+#[derive(Clone, Copy)]
 pub enum Turn {
     Next(usize),
     Stop(Verdict),
 }
 
 // What a line after the basis line says, and its terms if the text goes on.
-#[derive(Drop)]
+#[derive(Clone, Copy)]
 pub struct LineRead {
     pub turn: Turn,
     pub generator: Generator,

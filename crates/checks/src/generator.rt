@@ -15,7 +15,7 @@ use residue::Residue;
 use tabtext::terms::{Next, byte_is, read_term};
 
 // What the checks of a poly line say, and its terms if it passes.
-#[derive(Drop)]
+#[derive(Clone, Copy)]
 pub struct GeneratorRead {
     pub check: Check,
     pub generator: Generator,

@@ -4,6 +4,8 @@
 //   term        a term: 10, 6, 7, and 9 or 8
 //   generator   a poly line: its terms in turn
 //   basis       the lines of a text in turn
+#![tactic(auto)]
+
 pub mod basis;
 pub mod generator;
 pub mod header;
@@ -13,7 +15,7 @@ use answer::Verdict;
 use lines::Shape;
 
 // The verdict on a text, and the shape of the basis that it holds if it passes.
-#[derive(Drop)]
+#[derive(Clone, Copy)]
 pub struct BasisRead {
     pub verdict: Verdict,
     pub shape: Shape,

@@ -1,4 +1,6 @@
 // What the programs share: the buffers, and the printing of an answer.
+#![tactic(auto)]
+
 ghost use Rattle.std.specs.Prelude.{◌≡◌, suc, length};
 ghost use Rattle.io.specs.Counts.{IsPrefixLen};
 ghost use Rattle.lists.specs.Lists.{Bytes};

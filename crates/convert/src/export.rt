@@ -9,7 +9,7 @@ use answer::Answer;
 
 // Document 01's pair: 0 and the length written, or the number of the refusal and its line.
 #[repr(C)]
-#[derive(Drop)]
+#[derive(Clone, Copy)]
 pub struct Pair {
     pub number: u64,
     pub value: u64,

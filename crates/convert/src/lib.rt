@@ -3,6 +3,8 @@
 //   convert   the conversion of a text
 //   export    the same for callers in other languages
 //   print     the output for a lex basis
+#![tactic(auto)]
+
 ghost use Rattle.std.specs.Prelude.{◌<◌};
 ghost use Rattle.answer.specs.Finished.{Finished};
 ghost use Rattle.lines.specs.Bases.{basis_in, Stored};

@@ -3,6 +3,8 @@
 //   Coordinates   such a vector
 //   vectors       multiples and differences of vectors, their first nonzero places, and whether two are the same
 //   rows          vectors that stand in an array of numbers
+#![tactic(auto)]
+
 ghost use Rattle.std.specs.Prelude.{◌≡◌, ℕ, ◌<◌};
 ghost use Rattle.lines.specs.Sizes.{most_standard};
 ghost use Rattle.coordinates.specs.Vectors.{coordinate, indicator};
@@ -14,7 +16,7 @@ pub mod rows;
 pub mod vectors;
 
 // Coefficient k is that of the monomial at place k of a list.
-#[derive(Drop)]
+#[derive(Clone, Copy)]
 pub struct Coordinates {
     pub c: [Residue; MAX_STANDARD],
 }

@@ -10,7 +10,7 @@ use residue::Residue;
 use residue::word::{reduce, word_over};
 
 // A pivot: the first place that is not zero. Of a vector that is zero there is none: it depends on those before it.
-#[derive(Drop)]
+#[derive(Clone, Copy)]
 pub enum Found {
     Pivot(usize),
     Dependent,

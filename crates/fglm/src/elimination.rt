@@ -15,7 +15,7 @@ use residue::Residue;
 use residue::reciprocals::Reciprocals;
 
 // A vector that is 1 at its pivot, and the combination of the added vectors that it is.
-#[derive(Drop)]
+#[derive(Clone, Copy)]
 pub struct Reduced {
     pub pivot: usize,
     pub row: Coordinates,
@@ -23,14 +23,14 @@ pub struct Reduced {
 }
 
 // The first of the array; coefficient k of a combination is that of the k-th vector that was added.
-#[derive(Drop)]
+#[derive(Clone, Copy)]
 pub struct Rows {
     pub used: usize,
     pub rows: [Reduced; MAX_STANDARD],
 }
 
 // What is left of a vector, and the combination of the added vectors and it that this is.
-#[derive(Drop)]
+#[derive(Clone, Copy)]
 pub struct Residual {
     pub row: Coordinates,
     pub combination: Coordinates,

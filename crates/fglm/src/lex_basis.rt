@@ -3,7 +3,7 @@ use lines::sizes::MAX_STANDARD;
 use monomial::Monomial;
 
 // The number of lines, which stand in lent arrays as the crate store has them, and the first monomials of the array; both in rising order.
-#[derive(Drop)]
+#[derive(Clone, Copy)]
 pub struct LexShape {
     pub lines: usize,
     pub count: usize,

@@ -5,6 +5,8 @@
 //   lex_basis     the lines and the standard monomials that are found
 //   image         the row of a monomial, from those of the standard monomials
 //   line          the line of a monomial that depends on standard monomials
+#![tactic(auto)]
+
 pub mod elimination;
 pub mod enumeration;
 pub mod image;

@@ -1,4 +1,6 @@
 // Converts the text on standard input: prints the lex basis and its standard monomials, or the refusal.
+#![tactic(auto)]
+
 use console::{input_buffer, print_converted};
 use libc::STDIN_FILENO;
 

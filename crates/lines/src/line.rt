@@ -8,7 +8,7 @@ use monomial::Monomial;
 use residue::Residue;
 
 // A monic line of a basis: its terms, greatest first.
-#[derive(Drop)]
+#[derive(Clone, Copy)]
 pub struct Generator {
     pub terms: usize,
     pub coefficients: [Residue; MAX_TERMS],

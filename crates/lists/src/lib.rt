@@ -1,1 +1,2 @@
 // Lists and arrays: definitions (specs/) and laws (proofs/), no code.
+#![tactic(auto)]

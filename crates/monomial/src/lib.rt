@@ -7,6 +7,8 @@
 //   divisibility  divides, and the test for a power of one variable
 //   variable      the variables, the first one of a monomial, and quotients by them
 //   rank          monomials as numbers, in grevlex order
+#![tactic(auto)]
+
 ghost use Rattle.std.specs.Prelude.{◌≡◌, ℕ, ◌<◌};
 ghost use Rattle.monomial.specs.Sizes.{most_variables, most_exponent};
 ghost use Rattle.monomial.specs.Rows.{exponent};
@@ -24,10 +26,10 @@ pub const MAX_VARIABLES: usize = 4;
 // The largest exponent of a text, which the definitions have as most_exponent.
 pub const MAX_EXPONENT: u8 = 32;
 
-#[derive(Drop)]
+#[derive(Clone, Copy)]
 pub struct Exponent(pub u8);
 
-#[derive(Drop)]
+#[derive(Clone, Copy)]
 pub struct Monomial {
     pub e: [Exponent; MAX_VARIABLES],
 }

@@ -8,7 +8,7 @@ ghost use Rattle.monomial.specs.Represented.{row};
 use crate::{Exponent, MAX_VARIABLES, Monomial};
 
 // The first argument against the second.
-#[derive(Drop)]
+#[derive(Clone, Copy)]
 pub enum Comparison {
     Less,
     Equal,
@@ -16,7 +16,7 @@ pub enum Comparison {
 }
 
 // The variables from greatest to least, counted from 0: the first n places.
-#[derive(Drop)]
+#[derive(Clone, Copy)]
 pub struct Ranking {
     pub variables: [usize; MAX_VARIABLES],
 }

@@ -159,7 +159,7 @@ fn row_for(
 }
 
 // For each variable x_i the number of its rows that are filled.
-#[derive(Drop)]
+#[derive(Clone, Copy)]
 pub struct Cursors {
     pub at: [usize; MAX_VARIABLES],
 }

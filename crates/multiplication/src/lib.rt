@@ -4,6 +4,8 @@
 //   fill          these rows, filled in rising order of the products
 //   commute       whether these rows commute
 //   criterion     check 15: whether the lines are a Groebner basis, by these rows and the number of the lines
+#![tactic(auto)]
+
 pub mod commute;
 pub mod criterion;
 pub mod fill;

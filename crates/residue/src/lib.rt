@@ -4,6 +4,8 @@
 //   prime         the test of a modulus
 //   reciprocals   the table of reciprocals
 //   word          remainders with no division
+#![tactic(auto)]
+
 ghost use Rattle.std.specs.Prelude.{◌≡◌, ◌<◌, ◌≤◌, ◌%◌, eqb};
 ghost use Rattle.residue.specs.Prime.{largest_modulus};
 ghost use Rattle.residue.specs.Modular.{sum_mod, negation_mod, product_mod};
@@ -13,7 +15,7 @@ pub mod prime;
 pub mod reciprocals;
 pub mod word;
 
-#[derive(Drop)]
+#[derive(Clone, Copy)]
 pub struct Residue(pub u16);
 
 impl Residue {

@@ -7,7 +7,7 @@ ghost use Rattle.residue.specs.Reciprocals.{Serves};
 use crate::Residue;
 use crate::prime::LARGEST_MODULUS;
 
-#[derive(Drop)]
+#[derive(Clone, Copy)]
 pub struct Reciprocals {
     pub p: u16,
     pub table: [u16; LARGEST_MODULUS as usize],

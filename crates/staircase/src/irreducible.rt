@@ -13,7 +13,7 @@ use monomial::Monomial;
 use monomial::order::x1_to_xn;
 
 // The first of the array; or there are more than it has places.
-#[derive(Drop)]
+#[derive(Clone, Copy)]
 pub struct Irreducibles {
     pub many: bool,
     pub count: usize,

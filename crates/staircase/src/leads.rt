@@ -11,7 +11,7 @@ use lines::store::lead_at;
 use monomial::Monomial;
 
 // The first of the array.
-#[derive(Drop)]
+#[derive(Clone, Copy)]
 pub struct Leads {
     pub count: usize,
     pub monomials: [Monomial; MAX_LINES],

@@ -8,6 +8,8 @@
 //   place              their places in this list
 //   ranks              their ranks
 //   sort               this list in rising grevlex order
+#![tactic(auto)]
+
 pub mod divided;
 pub mod irreducible;
 pub mod leads;

@@ -13,7 +13,7 @@ use monomial::order::Ranking;
 use monomial::{Exponent, Monomial};
 
 // The next monomial, if there is one.
-#[derive(Drop)]
+#[derive(Clone, Copy)]
 pub struct NextMonomial {
     pub found: bool,
     pub monomial: Monomial,

@@ -5,6 +5,8 @@
 //   terms     rows of exponents, and terms
 //   record    the record of a line: its number and one of five kinds
 //   print     values of the code, printed as lines
+#![tactic(auto)]
+
 pub mod number;
 pub mod print;
 pub mod record;

@@ -6,7 +6,7 @@ ghost use Rattle.tabtext.specs.Answers.{NumberSays};
 ghost use Rattle.tabtext.specs.Written.{Room, Written};
 
 // A number and the place after it, or bad.
-#[derive(Drop)]
+#[derive(Clone, Copy)]
 pub enum NumberRead {
     Value(u32, usize),
     Bad,

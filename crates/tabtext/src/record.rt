@@ -9,14 +9,14 @@ use crate::number::{NumberRead, byte_at};
 use crate::terms::{Next, byte_is, read_byte, read_field, read_rows, read_terms};
 
 // The bytes of a text from start up to end.
-#[derive(Drop)]
+#[derive(Clone, Copy)]
 pub struct Span {
     pub start: usize,
     pub end: usize,
 }
 
 // A basis line: the order word, p and n.
-#[derive(Drop)]
+#[derive(Clone, Copy)]
 pub struct Header {
     pub order: Span,
     pub p: u32,
@@ -24,7 +24,7 @@ pub struct Header {
 }
 
 // The five kinds: basis, poly, stairs, runs, end. A span starts after the first word and ends at LF.
-#[derive(Drop)]
+#[derive(Clone, Copy)]
 pub enum Kind {
     Header(Header),
     Generator(Span),
@@ -34,14 +34,14 @@ pub enum Kind {
 }
 
 // A line's number and its kind.
-#[derive(Drop)]
+#[derive(Clone, Copy)]
 pub struct Record {
     pub line: usize,
     pub kind: Kind,
 }
 
 // A record and the place after its LF, or bad.
-#[derive(Drop)]
+#[derive(Clone, Copy)]
 pub enum Read {
     Found(Record, usize),
     Bad,

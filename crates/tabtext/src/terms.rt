@@ -8,21 +8,21 @@ use crate::number::{NumberRead, read_number};
 use monomial::MAX_VARIABLES;
 
 // The place after what was read, or bad.
-#[derive(Drop)]
+#[derive(Clone, Copy)]
 pub enum Next {
     At(usize),
     Bad,
 }
 
 // A row of numbers, of which the first n were read.
-#[derive(Drop)]
+#[derive(Clone, Copy)]
 pub struct ExponentsRead {
     pub next: Next,
     pub row: [u32; MAX_VARIABLES],
 }
 
 // A term: its coefficient, and a row of which the first n were read.
-#[derive(Drop)]
+#[derive(Clone, Copy)]
 pub struct TermRead {
     pub next: Next,
     pub coefficient: u32,
