@@ -35,7 +35,7 @@ module _ (p n : ℕ) where
   lines_step (suc most) found s h = refl
 
   -- Each outcome is that of the model.
-  remaining-to : (most : ℕ) {found : List (List Term)} {s : Bytes} {o : Judged Basis} → length s ≤ most → Remaining p n o found s → judge_lines most p n found s ≡ o
+  remaining-to : {o : Judged Basis} (most : ℕ) {found : List (List Term)} {s : Bytes} → length s ≤ most → Remaining p n o found s → judge_lines most p n found s ≡ o
   unfolding judge_line
   remaining-to most {s} h (malformed {got = found} no_line e) = lines_step most found s h ∙ go (read_line n s) refl ∙ sym e
     where

@@ -46,7 +46,7 @@ use Rattle.groebner.proofs.ReducibleTest.{reducible, irreducible-iff, reducible-
 use Rattle.groebner.proofs.Seen.{Seen, SeenBelow, AllSeen, seen-line, seen-standard, seen-onward, visited-divisors, visited-few}
 
 module _ {F : Type 0} {R : Arithmetic F} (n : ℕ) {W : Type 0} {𝓥 : Module R W} {L : Row n → W} {D : ℕ} (E : Elimination 𝓥 L D) where
-  open E use {State, start, add, Holds, start_holds, add-Holds, room}
+  open E use {State, start, add, Holds, start_holds, add_holds, room}
 
   -- What is found so far, and the state of the elimination.
   pub record Progress : Type 0 where
@@ -132,7 +132,7 @@ module _ {F : Type 0} {R : Arithmetic F} (n : ℕ) {W : Type 0} {𝓥 : Module R
 
     pub visit-visited : (p : Progress) (m : Row n) → ToVisit lt p m → Visited lt (visit p m) m × (visited (visit p m) ≡ suc (visited p))
     unfolding visit extend
-    visit-visited p m v = at (add p.state p.standard m) (add-Holds p.state p.standard m v.holds)
+    visit-visited p m v = at (add p.state p.standard m) (add_holds p.state p.standard m v.holds)
       where
         at : (a : Poly F (Row n) ⊎ State) → AddedVector 𝓥 L Holds p.standard m a → Visited lt (extend p m a) m × (visited (extend p m a) ≡ suc (visited p))
         at (inl f) h = (

@@ -110,7 +110,7 @@ module _ (n v : ℕ) (s : List ℕ) (ranking : RanksOnce n (v ∷ s)) where
         at : (a : Poly F (Row n) ⊎ E.State) → E.add p.state p.standard m ≡ a
             → (next n (v ∷ s) (reducible n (extend n E p m a).lines) m ≡ none) ↔ ((f : Poly F (Row n)) × (E.add p.state p.standard m ≡ inl f) × (is_power n v m ≡ true))
         at (inl f) e = (
-          λ q. (f, e, ends-at-power m p.lines below visits.free (negate R f) (subst (Successor _ _ m) q (successor H))),
+          λ q. (f, e, ends-at-power m p.lines below visits.free (negate R f) (subst (Successor (LessBy (lex n (v ∷ s))) (reducible n H) m) q (successor H))),
           λ h. ended (next n (v ∷ s) (reducible n H) m) (successor H) h.2,
         )
           where
@@ -120,4 +120,4 @@ module _ (n v : ℕ) (s : List ℕ) (ranking : RanksOnce n (v ∷ s)) where
             ended : (x : Option (Row n)) → Successor (LessBy (lex n (v ∷ s))) (reducible n H) m x → is_power n v m ≡ true → x ≡ none
             ended none _ _ = refl
             ended (some r) h q = absurd (power-ends m p.lines below visits.free (negate R f) q r h)
-        at (inr t) e = (λ q. absurd (standard-goes-on m p.lines below visits.free (subst (Successor _ _ m) q (successor p.lines))), λ h. cc h.1)
+        at (inr t) e = (λ q. absurd (standard-goes-on m p.lines below visits.free (subst (Successor (LessBy (lex n (v ∷ s))) (reducible n p.lines) m) q (successor p.lines))), λ h. cc h.1)

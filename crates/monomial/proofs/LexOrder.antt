@@ -61,7 +61,7 @@ lex-product n [] u a b = refl
 lex-product n (i ∷ s) u a b = simp (lex-cons, exponent-product, compared-sum, lex-product n s u a b)
 
 -- Rows that lex calls equal have the same exponent of each variable of the list.
-lex-same : (n : ℕ) {s : List ℕ} {i : ℕ} → Memᴰ i s → (a b : Row n) → lex n s a b ≡ Equal → exponent n a i ≡ exponent n b i
+lex-same : (n : ℕ) {i : ℕ} {s : List ℕ} → Memᴰ i s → (a b : Row n) → lex n s a b ≡ Equal → exponent n a i ≡ exponent n b i
 lex-same n (Memᴰ.head {x = v} {xs = s} q) a b e = rw q ((lex-cons-equal n v s a b).0 e).0
 lex-same n (Memᴰ.tail {x = v} {xs = s} m) a b e = lex-same n m a b ((lex-cons-equal n v s a b).0 e).1
 
