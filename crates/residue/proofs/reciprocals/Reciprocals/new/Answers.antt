@@ -1,0 +1,29 @@
+-- `Reciprocals::new` meets its contract. The loop's invariant: the table has the reciprocals of the numbers below a, and their pairs.
+use mathlib.Core.Path.{refl, sym, subst}
+use mathlib.Core.List.{List}
+use Prim.Native.Nat.{ℕ, ◌+◌}
+use Rattle.residue.proofs.Filling.{TableFilled, reciprocals-none, filled-none-below, reciprocals-more, filled-over, filled-stop}
+use Rattle.residue.proofs.reciprocals.Reciprocals.new.Goals.{then-table-a-eq0, else-table-a-eq0}
+use Rattle.residue.proofs.reciprocals.Reciprocals.new.Goals as goal
+
+pub loop-a-init : goal.loop-a-init
+loop-a-init c = reciprocals-none _ c.requires
+
+pub counted-b-requires : goal.counted-b-requires
+counted-b-requires c =
+    let l = c.loop-a-test.true in
+    (c.requires, c.loop-a.invariant.above_zero, l, filled-none-below _ _ _ c.loop-a.invariant l c.if-table-a-eq0.true)
+
+pub loop-a-preserved : goal.loop-a-preserved
+loop-a-preserved c =
+    let l = c.loop-a-test.true in
+    let filled : List ℕ → Type 0 = λ t. TableFilled c.args.p t (c.loop-a.a + 1) in
+    elim c.if-table-a-eq0.branch [
+      | then-table-a-eq0 w ↦
+          let b = w.counted-b.ensures in
+          subst filled (sym w.table-is) (reciprocals-more _ _ _ _ c.loop-a.invariant l (record { below = b.1; inverse = b.0 }))
+      | else-table-a-eq0 w ↦ subst filled (sym w.table-is) (filled-over _ _ _ c.loop-a.invariant l w.if-table-a-eq0.false)
+    ]
+
+pub returns : goal.returns
+returns c = (refl, filled-stop _ _ _ c.loop-a.invariant c.loop-a-test.false)
