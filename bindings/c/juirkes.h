@@ -1,6 +1,6 @@
 /* Converts a reduced Groebner basis from grevlex order to lex order.
 
-   Link with libconvert.a, which `rt staticlib convert` writes to target/staticlib:
+   Link with libconvert.a, which `bindings/library` writes to target/staticlib:
 
        cc -O2 program.c target/staticlib/libconvert.a -o program
 

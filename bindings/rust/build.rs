@@ -1,6 +1,6 @@
 //! Finds the proved library `libconvert.a` and links it.
 //!
-//! It is looked for in the folder that `JUIRKES_LIB_DIR` names, else in `target/staticlib` of the repository, where `rt staticlib convert` writes it.
+//! It is looked for in the folder that `JUIRKES_LIB_DIR` names, else in `target/staticlib` of the repository, where `bindings/library` writes it.
 
 use std::env;
 use std::path::PathBuf;
@@ -14,7 +14,7 @@ fn main() {
     let archive = folder.join("libconvert.a");
     println!("cargo:rerun-if-changed={}", archive.display());
     if !archive.is_file() {
-        eprintln!("{} is not there: run `rt staticlib convert` in the repository, or set JUIRKES_LIB_DIR", archive.display());
+        eprintln!("{} is not there: run `bindings/library` in the repository, or set JUIRKES_LIB_DIR", archive.display());
         std::process::exit(1);
     }
     println!("cargo:rustc-link-search=native={}", folder.display());

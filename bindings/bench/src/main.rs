@@ -23,9 +23,9 @@ struct Times {
     singular_process: Option<f64>,
 }
 
-/// The program: what `JUIRKES_PROGRAM` names, else `target/bin/juirkes` of the repository.
+/// The program: what `JUIRKES_PROGRAM` names, else `crates/juirkes/out/juirkes` of the repository.
 fn program() -> Option<PathBuf> {
-    let default = || Path::new(env!("CARGO_MANIFEST_DIR")).join("../../target/bin/juirkes");
+    let default = || Path::new(env!("CARGO_MANIFEST_DIR")).join("../../crates/juirkes/out/juirkes");
     let path = std::env::var_os("JUIRKES_PROGRAM").map_or_else(default, PathBuf::from);
     path.is_file().then_some(path)
 }

@@ -6,19 +6,22 @@ ghost use Rattle.std.specs.Prelude.{◌≡◌, length};
 ghost use Rattle.tabtext.specs.Sizes.{most_bytes};
 
 use answer::Answer;
-use console::{input_buffer, print_converted, print_refusal};
+use console::{input_buffer, print_converted, print_refusal, read_full};
 use convert::convert;
-use libc::STDOUT_FILENO;
+use std::env::Env;
+use std::io::{Read, Write};
+use std::rt::Files;
+use std::{env, fs, io};
 use tabtext::sizes::MAX_BYTES;
 
 // What stands in an output before.
 const BEFORE: u8 = 170;
 
-fn print_unchanged(same: bool) {
+fn print_unchanged<W: Write>(out: &mut W, same: bool) -> io::Result<()> {
     if same {
-        io::write_all(STDOUT_FILENO, b"unchanged\n");
+        out.write_all(b"unchanged\n")
     } else {
-        io::write_all(STDOUT_FILENO, b"changed\n");
+        out.write_all(b"changed\n")
     }
 }
 
@@ -49,65 +52,58 @@ fn convert_within(input: &[u8], output: &mut [u8], room: usize) -> Answer {
 }
 
 // With `room` bytes of output: the answer, and whether the bytes after the length written are unchanged, those past the room too.
-fn print_with_room(input: &[u8], room: usize) {
+fn print_with_room<W: Write>(out: &mut W, input: &[u8], room: usize) -> io::Result<()> {
     let mut output = marked_buffer();
     let answer = convert_within(input, &mut output, room);
     match answer {
         Answer::Accepted(size) => {
-            io::write_all(STDOUT_FILENO, b"accepted\t");
-            io::print_decimal(STDOUT_FILENO, size as u64);
-            io::write_all(STDOUT_FILENO, b"\n");
-            print_unchanged(unchanged(&output, size));
+            writeln!(out, "accepted\t{size}")?;
+            print_unchanged(out, unchanged(&output, size))
         }
         Answer::Refused(r, line) => {
-            print_refusal(r, line);
-            print_unchanged(unchanged(&output, 0));
+            print_refusal(out, r, line)?;
+            print_unchanged(out, unchanged(&output, 0))
         }
     }
 }
 
-fn run(input: &[u8]) {
-    let answer = print_converted(input);
+fn run<W: Write>(out: &mut W, input: &[u8]) -> io::Result<()> {
+    let (answer, printed) = print_converted(out, input);
+    printed?;
     match answer {
         Answer::Accepted(size) => {
             if 0 < size {
-                print_with_room(input, size - 1);
+                print_with_room(out, input, size - 1)?;
             }
-            print_with_room(input, size);
+            print_with_room(out, input, size)
         }
-        Answer::Refused(_, _) => {}
+        Answer::Refused(_, _) => Ok(()),
     }
 }
 
-// The text in the file of that name.
-fn run_file(name: &[u8]) {
-    let fd = os::open_read(name);
-    if fd < 0 {
-        os::fail(name);
-        return;
-    }
+// The text in an open file of that name.
+fn run_file<W: Write, F: Read>(out: &mut W, name: &str, file: &mut F) -> io::Result<()> {
     let mut input = input_buffer();
-    let n = io::read_full(fd, &mut input);
-    libc::close(fd);
-    io::write_all(STDOUT_FILENO, name);
-    io::write_all(STDOUT_FILENO, b"\n");
-    run(&input[..n]);
+    let n = read_full(file, &mut input)?;
+    writeln!(out, "{name}")?;
+    run(out, &input[..n])
 }
 
-fn run_argument(i: usize) {
-    let mut name = io::buffer();
-    let n = os::arg(i, &mut name);
-    run_file(&name[..n]);
-}
-
-fn run_arguments(count: usize) {
-    let mut i: usize = 1;
-    while i < count {
-        run_argument(i);
-        i += 1;
+// A file that cannot be opened is named on standard error, and passed over.
+fn run_argument<R: Files + Eprint, W: Write>(rt: &R, out: &mut W, name: &str) -> io::Result<()> {
+    match fs::open(rt, name) {
+        Ok(mut file) => run_file(out, name, &mut file),
+        Err(e) => eprintln!(rt; "{name}: {e}"),
     }
 }
 
-fn main() {
-    run_arguments(os::arg_count());
+fn run_arguments<R: Files + Eprint + Env + Alloc, W: Write>(rt: &R, out: &mut W) -> io::Result<()> {
+    for name in env::args(rt)?.skip(1) {
+        run_argument(rt, out, name.as_str())?;
+    }
+    Ok(())
+}
+
+fn main(rt: HostRuntime) -> io::Result<()> {
+    run_arguments(&rt, &mut io::writer(&rt))
 }

@@ -1,17 +1,19 @@
-// What the programs share: the buffers, and the printing of an answer.
+// What the programs share: the buffers, the reading of a text, and the printing of an answer.
 #![tactic(auto)]
 
-ghost use Rattle.std.specs.Prelude.{◌≡◌, suc, length};
-ghost use Rattle.io.specs.Counts.{IsPrefixLen};
+ghost use Rattle.std.specs.Prelude.{◌≡◌, ◌≤◌, suc, length};
+ghost use Rattle.std.specs.Io.{ReadsAtMost};
 ghost use Rattle.lists.specs.Lists.{Bytes};
 ghost use Rattle.answer.specs.Outcomes.{Judged};
 ghost use Rattle.answer.specs.Answers.{pair, returned};
 ghost use Rattle.tabtext.specs.Sizes.{most_bytes};
+ghost use Rattle.convert.specs.Contract.{Meets};
 ghost use Rattle.convert.specs.Outcome.{Outcome};
 
 use answer::{Answer, Refusal};
 use convert::convert;
-use libc::STDOUT_FILENO;
+use std::io;
+use std::io::{Read, Write};
 use tabtext::sizes::MAX_BYTES;
 
 // One byte more than an input may have, so that a longer one is told.
@@ -28,33 +30,50 @@ pub fn output_buffer() -> [u8; MAX_BYTES]
     [0; MAX_BYTES]
 }
 
-pub fn print_refusal(r: Refusal, line: usize) {
-    io::write_all(STDOUT_FILENO, b"refused\t");
-    io::print_decimal(STDOUT_FILENO, r.number() as u64);
-    io::write_all(STDOUT_FILENO, b"\t");
-    io::print_decimal(STDOUT_FILENO, line as u64);
-    io::write_all(STDOUT_FILENO, b"\n");
-}
-
-fn print_bytes(output: &[u8], size: usize)
-    requires { IsPrefixLen size output.now }
+// Reads until the buffer is full or the input ends: how many bytes stand at the front of the buffer.
+pub fn read_full<R: Read>(reader: &mut R, buffer: &mut [u8]) -> io::Result<usize>
+    ensures { ReadsAtMost result buffer.new }
 {
-    io::write_all(STDOUT_FILENO, &output[..size]);
+    let mut done: usize = 0;
+    while done < buffer.len() {
+        let n = reader.read(&mut buffer[done..])?;
+        if n == 0 {
+            break;
+        }
+        done += n;
+    }
+    Ok(done)
 }
 
-// Prints the output for a text, or its refusal. The answer is that for an output of 65,536 bytes, and so never 16.
-pub fn print_converted(input: &[u8]) -> Answer
-    ensures { ((o : Judged Bytes) × Outcome input.now most_bytes o × (pair result ≡ returned o)) × (¬ ((pair result).0 ≡ 16)) }
+pub fn print_refusal<W: Write>(out: &mut W, r: Refusal, line: usize) -> io::Result<()> {
+    let number = r.number();
+    writeln!(out, "refused\t{number}\t{line}")
+}
+
+fn print_bytes<W: Write>(out: &mut W, output: &[u8], size: usize) -> io::Result<()>
+    requires { size ≤ length output.now }
+{
+    out.write_all(&output[..size])
+}
+
+// The answer for a text and an output of 65,536 bytes, and so never 16. What is to be printed is left in that output.
+pub fn judge(input: &[u8], output: &mut [u8]) -> Answer
+    requires { most_bytes ≡ length output.old }
+    ensures meets { Meets input.now output.old output.new result }
+    ensures answered { ((o : Judged Bytes) × Outcome input.now most_bytes o × (pair result ≡ returned o)) × (¬ ((pair result).0 ≡ 16)) }
+{
+    convert(input, output)
+}
+
+// Prints the output for a text, or its refusal: the answer, which is that of `judge`, and whether all of it was printed.
+pub fn print_converted<W: Write>(out: &mut W, input: &[u8]) -> (Answer, io::Result<()>)
+    ensures { ((o : Judged Bytes) × Outcome input.now most_bytes o × (pair result.0 ≡ returned o)) × (¬ ((pair result.0).0 ≡ 16)) }
 {
     let mut output = output_buffer();
-    let answer = convert(input, &mut output);
-    match answer {
-        Answer::Accepted(size) => {
-            print_bytes(&output, size);
-        }
-        Answer::Refused(r, line) => {
-            print_refusal(r, line);
-        }
-    }
-    answer
+    let answer = judge(input, &mut output);
+    let printed = match answer {
+        Answer::Accepted(size) => print_bytes(out, &output, size),
+        Answer::Refused(r, line) => print_refusal(out, r, line),
+    };
+    (answer, printed)
 }

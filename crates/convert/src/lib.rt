@@ -1,7 +1,6 @@
 // The conversion of a text: the lex basis and its standard monomials, or a refusal.
 //
 //   convert   the conversion of a text
-//   export    the same for callers in other languages
 //   print     the output for a lex basis
 #![tactic(auto)]
 
@@ -27,7 +26,6 @@ use residue::reciprocals::Reciprocals;
 use staircase::irreducible::Irreducibles;
 use tabtext::sizes::MAX_BYTES;
 
-pub mod export;
 pub mod print;
 
 // The output, if it has room; otherwise nothing is written (document 01, refusal 16).

@@ -1,11 +1,13 @@
-// The conversion for callers in other languages: a pointer and a length for each buffer.
+// The conversion as a static library, for callers in other languages: a pointer and a length for each buffer.
+#![tactic(auto)]
+
 ghost use Rattle.std.specs.Prelude.{◌≡◌};
 ghost use Rattle.answer.specs.Answers.{pair};
 ghost use Rattle.answer.specs.declared.Answer.{Answer as Answers};
 ghost use Rattle.convert.specs.Contract.{Meets};
 
-use crate::convert;
 use answer::Answer;
+use convert::convert;
 
 // Document 01's pair: 0 and the length written, or the number of the refusal and its line.
 #[repr(C)]

@@ -1,0 +1,6 @@
+-- `print_converted`: the length that is told is no more than that of the output.
+use Rattle.convert.proofs.Meets.{accepted-fits}
+use Rattle.console.proofs.print_converted.Goals as goal
+
+pub print_bytes-requires : goal.print_bytes-requires
+print_bytes-requires g c = accepted-fits c.judge-answer.ensures.meets c.in-Accepted.size c.in-Accepted.is
