@@ -1,0 +1,27 @@
+-- `same_coordinates` meets its contract. The loop's invariant: `equal` tells whether the first k coefficients are equal.
+use Prim.Native.Nat.{ℕ, ◌+◌, ◌<◌}
+use mathlib.Core.Path.{◌≡◌, sym, subst}
+use mathlib.Core.Bool.{Bool, true}
+use mathlib.Core.Logic.{◌↔◌}
+use native.Mathlib.Omega.{arith}
+use Rattle.lists.proofs.Testing.{tested-none, tested-failed, tested-more, tested-whole}
+use Rattle.coordinates.specs.Vectors.{coordinate}
+use Rattle.coordinates.proofs.vectors.same_coordinates.Goals.{then-a-k, else-a-k}
+use Rattle.coordinates.proofs.vectors.same_coordinates.Goals as goal
+
+pub loop-k-init : goal.loop-k-init
+loop-k-init c = (omega arith, tested-none)
+
+pub loop-k-preserved : goal.loop-k-preserved
+loop-k-preserved c =
+    let a = c.args in
+    let tells : Bool → Type 0 = λ t. (t ≡ true) ↔ ((j : ℕ) → j < c.loop-k.k + 1 → coordinate a.a j ≡ coordinate a.other j) in (
+      omega arith,
+      elim c.if-a-k.branch [
+        | then-a-k w ↦ subst tells (sym w.equal-is) (tested-failed c.loop-k.k (omega arith) (λ e. w.if-a-k.true e))
+        | else-a-k w ↦ subst tells (sym w.equal-is) (tested-more c.loop-k.invariant.1 w.if-a-k.false)
+      ],
+    )
+
+pub returns : goal.returns
+returns c = tested-whole (omega arith) c.loop-k.invariant.1
