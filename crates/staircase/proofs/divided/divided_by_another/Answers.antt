@@ -1,0 +1,38 @@
+-- `divided_by_another` meets its contract. The loop's invariant: none of the first j, but at place i, divides a monomial of the line.
+use mathlib.Core.Path.{◌≡◌}
+use mathlib.Core.Logic.Iff
+use native.Mathlib.Omega.{arith}
+use borrow.Author.Count.{below_more}
+use borrow.Author.Rules.{rules}
+use lib.ListN.{length}
+use Rattle.lists.proofs.Elements.{length-mapped}
+use Rattle.lists.proofs.Testing.{sought-found, sought-all, denied}
+use Rattle.lines.specs.Sizes.{most_lines}
+use Rattle.staircase.proofs.DividedPlaces.{divided-by-another-iff}
+use Rattle.staircase.proofs.divided.divided_by_another.Goals.{else-j-i-via-then-j-i+else-divides_term, else-j-i-via-else-j-i}
+use Rattle.staircase.proofs.divided.divided_by_another.Goals as goal
+
+pub loop-j-init : goal.loop-j-init
+loop-j-init c =
+    let f : length c.args.leads.monomials ≡ most_lines = search (length-mapped, rules) in
+    (omega arith, omega arith, λ k h. absurd (omega arith))
+
+pub returns-then-divides_term : goal.returns-then-divides_term
+returns-then-divides_term c =
+    Iff.trans (sought-found c.loop-j.j (omega arith) (c.if-j-i.true, c.divides_term.ensures.0 c.if-divides_term.true))
+    (Iff.symm (divided-by-another-iff _ _ _ _ _ c.loop-j.invariant.1))
+
+pub loop-j-preserved : goal.loop-j-preserved
+loop-j-preserved c = (
+  omega arith,
+  c.loop-j.invariant.1,
+  below_more _ _ c.loop-j.invariant.2 (elim c.else-j-i.branch [
+    | else-j-i-via-then-j-i+else-divides_term w ↦ λ (d, t). denied w.divides_term.ensures w.if-divides_term.false t
+    | else-j-i-via-else-j-i w ↦ λ (d, t). d w.if-j-i.false
+  ]),
+)
+
+pub returns : goal.returns
+returns c =
+    let l = c.loop-j in
+    Iff.trans (sought-all l.j (omega arith) l.invariant.2) (Iff.symm (divided-by-another-iff _ _ _ _ _ l.invariant.1))
