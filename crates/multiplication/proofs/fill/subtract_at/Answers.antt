@@ -1,0 +1,20 @@
+-- `subtract_at` meets its contract.
+use mathlib.Core.Path.{◌≡◌}
+use lib.ListN.{length}
+use borrow.Author.Rules.{rules}
+use Rattle.lists.proofs.Elements.{length-mapped}
+use Rattle.lines.specs.Sizes.{most_standard}
+use Rattle.multiplication.proofs.TailRows.{subtracted-at, subtracted-nowhere}
+use Rattle.multiplication.proofs.fill.subtract_at.Goals as goal
+
+pub sub-requires : goal.sub-requires
+sub-requires c = let (b, h, m, l) = c.requires in (b.below _, h, m)
+
+pub returns-then-at-count : goal.returns-then-at-count
+returns-then-at-count c =
+    let (b, h, m, l) = c.requires in
+    let size : length c.args.r.c ≡ most_standard = search (length-mapped, rules) in
+    subtracted-at b size c.if-at-count.true l c.sub.ensures
+
+pub returns-else-at-count : goal.returns-else-at-count
+returns-else-at-count c = subtracted-nowhere c.requires.0 c.if-at-count.false
