@@ -5,16 +5,12 @@ use borrow.Author.Rules.{rules}
 use Rattle.lists.proofs.Elements.{length-mapped}
 use Rattle.monomial.specs.Represented.{row}
 use Rattle.division.proofs.StoredExponent.{stored_here, stored-elsewhere}
-use Rattle.division.proofs.grevlex.with_exponent.Statement.{statement}
-use Rattle.division.proofs.grevlex.with_exponent.Tie as tie
+use Rattle.division.proofs.grevlex.with_exponent.Goals as goal
 
-returns : tie.Need-returns
+pub returns : goal.returns
 unfolding row
 returns c =
-    let l = c.args.t1.e in
+    let l = c.args.m.e in
     let i = c.args.i in
     let g : i < length l = search (length-mapped, rules) in
     record { here = λ n h. stored_here n l i _ h g; elsewhere = λ n j h d. stored-elsewhere n l i _ j h d }
-
-pub with-exponent-spec : {M : Type 1} → statement M
-with-exponent-spec = tie.close (tie.spec (λ c. search rules) (λ c. search rules) returns)

@@ -1,0 +1,30 @@
+-- `add_term` meets its contract.
+use Prim.Native.Nat.{◌<◌}
+use lib.ListN.{length}
+use native.Mathlib.Omega.{arith}
+use Rattle.monomial.specs.Represented.{row}
+use Rattle.division.specs.GrevlexPlace.{place}
+use Rattle.division.proofs.AddedTerms.{adds-store}
+use Rattle.division.proofs.division.add_term.Goals as goal
+
+pub place-at-requires : goal.place-at-requires
+place-at-requires c = record { variables = c.requires.work.variables.most; low = c.requires.low }
+
+pub bounds-work-at : goal.bounds-work-at
+bounds-work-at c = omega (arith, c.requires.work.room, c.place-at.ensures.inside)
+
+pub add-requires : goal.add-requires
+add-requires c =
+    let pre = c.requires in
+    (rw c.place-at.ensures.value (pre.work.residues _), pre.residue, pre.work.modulus.size)
+
+pub bounds-work-at-2 : goal.bounds-work-at-2
+bounds-work-at-2 c = omega (arith, c.requires.work.room, c.place-at.ensures.inside)
+
+pub returns : goal.returns
+returns c =
+    let n = c.args.n in
+    let w = c.args.work.now in
+    let e = c.place-at.ensures.value in
+    let inside : place n (row n c.args.m) < length w = omega (arith, c.place-at.ensures.inside, c.requires.work.room) in
+    rw e (adds-store c.args.p n w _ c.args.c.0 _ c.requires.work.residues inside c.requires.residue (rw e at c.add.ensures.0))

@@ -1,0 +1,33 @@
+-- `earlier_fails` meets its contract. The loop's invariant: the pairs with the first i lines passed.
+use mathlib.Core.Path.{◌∙◌}
+use native.Mathlib.Omega.{arith}
+use Rattle.division.proofs.PairSearch.{earlier-start, earlier-turn, earlier-found, earlier-stop}
+use Rattle.division.proofs.pairs.earlier_fails.Goals as goal
+
+pub loop-i-init : goal.loop-i-init
+loop-i-init c =
+    let (stored, later) = c.requires in
+    earlier-start stored.basis
+
+pub pair_fails-requires : goal.pair_fails-requires
+pair_fails-requires c =
+    let (stored, later) = c.requires in
+    (record { arrays = stored.arrays; basis = c.loop-i.invariant.ready }, omega (arith, later), later)
+
+pub shape_of-work-then-pair_fails : goal.shape_of-work-then-pair_fails
+shape_of-work-then-pair_fails c =
+    c.work-1.given ∙ c.loop-i.invariant.size
+
+pub returns-then-pair_fails : goal.returns-then-pair_fails
+returns-then-pair_fails c =
+    earlier-found c.loop-i.invariant c.loop-i-test.true c.pair_fails.ensures c.if-pair_fails.true
+
+pub loop-i-preserved : goal.loop-i-preserved
+loop-i-preserved c =
+    earlier-turn c.loop-i.invariant c.loop-i-test.true c.pair_fails.ensures c.work-1.given c.if-pair_fails.false
+
+pub shape_of-work : goal.shape_of-work
+shape_of-work c = c.loop-i.invariant.size
+
+pub returns : goal.returns
+returns c = earlier-stop c.loop-i.invariant (omega arith)

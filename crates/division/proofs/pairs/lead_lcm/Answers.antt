@@ -1,0 +1,23 @@
+-- `lead_lcm` meets its contract.
+use Rattle.division.proofs.StoredLines.{lcm-read}
+use Rattle.division.proofs.pairs.lead_lcm.Goals as goal
+
+pub lead_at-f-requires : goal.lead_at-f-requires
+lead_at-f-requires c =
+    let (size, variables, left, right) = c.requires in
+    (left, size)
+
+pub lead_at-g-requires : goal.lead_at-g-requires
+lead_at-g-requires c =
+    let (size, variables, left, right) = c.requires in
+    (right, size)
+
+pub lcm-requires : goal.lcm-requires
+lcm-requires c =
+    let (size, variables, left, right) = c.requires in
+    variables
+
+pub returns : goal.returns
+returns c ts cs =
+    let (size, variables, left, right) = c.requires in
+    lcm-read c.args.shape ts cs _ c.args.i c.args.j left right c.lead_at-f.ensures c.lead_at-g.ensures c.lcm.ensures
