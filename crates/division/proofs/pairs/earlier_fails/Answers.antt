@@ -1,5 +1,4 @@
 -- `earlier_fails` meets its contract. The loop's invariant: the pairs with the first i lines passed.
-use mathlib.Core.Path.{◌∙◌}
 use native.Mathlib.Omega.{arith}
 use Rattle.division.proofs.PairSearch.{earlier-start, earlier-turn, earlier-found, earlier-stop}
 use Rattle.division.proofs.pairs.earlier_fails.Goals as goal
@@ -15,8 +14,7 @@ pair_fails-requires c =
     (record { arrays = stored.arrays; basis = c.loop-i.invariant.ready }, omega (arith, later), later)
 
 pub shape_of-work-then-pair_fails : goal.shape_of-work-then-pair_fails
-shape_of-work-then-pair_fails c =
-    c.work-1.given ∙ c.loop-i.invariant.size
+shape_of-work-then-pair_fails c = omega arith
 
 pub returns-then-pair_fails : goal.returns-then-pair_fails
 returns-then-pair_fails c =
@@ -24,7 +22,7 @@ returns-then-pair_fails c =
 
 pub loop-i-preserved : goal.loop-i-preserved
 loop-i-preserved c =
-    earlier-turn c.loop-i.invariant c.loop-i-test.true c.pair_fails.ensures c.work-1.given c.if-pair_fails.false
+    earlier-turn c.loop-i.invariant c.loop-i-test.true c.pair_fails.ensures (omega arith) c.if-pair_fails.false
 
 pub shape_of-work : goal.shape_of-work
 shape_of-work c = c.loop-i.invariant.size

@@ -1,5 +1,4 @@
 -- `first_failing` meets its contract. The loop's invariant: the pairs of the first j lines with earlier lines passed.
-use mathlib.Core.Path.{◌∙◌}
 use native.Mathlib.Omega.{arith}
 use Rattle.staircase.proofs.StoredBasis.{held-filled}
 use Rattle.division.proofs.PairSearch.{lines_start, lines-turn, lines-found, lines-stop}
@@ -21,8 +20,7 @@ overflow_add-result c =
     omega (arith, c.loop-j-test.true, c.loop-j.invariant.ready.pairs.sound.few)
 
 pub shape_of-work-then-earlier_fails : goal.shape_of-work-then-earlier_fails
-shape_of-work-then-earlier_fails c =
-    c.work-in-loop-j-1.given ∙ c.loop-j.invariant.size ∙ c.work-1.given
+shape_of-work-then-earlier_fails c = omega arith
 
 pub returns-then-earlier_fails : goal.returns-then-earlier_fails
 returns-then-earlier_fails c =
@@ -37,11 +35,10 @@ loop-j-smaller c = omega (arith, c.loop-j-test.true)
 
 pub loop-j-preserved : goal.loop-j-preserved
 loop-j-preserved c =
-    lines-turn c.loop-j.invariant c.loop-j-test.true c.earlier_fails.ensures c.work-in-loop-j-1.given c.if-earlier_fails.false
+    lines-turn c.loop-j.invariant c.loop-j-test.true c.earlier_fails.ensures (omega arith) c.if-earlier_fails.false
 
 pub shape_of-work : goal.shape_of-work
-shape_of-work c =
-    c.loop-j.invariant.size ∙ c.work-1.given
+shape_of-work c = omega arith
 
 pub returns : goal.returns
 returns c = lines-stop c.loop-j.invariant (omega (arith, c.loop-j-test.false))
