@@ -1,0 +1,61 @@
+-- `check_generator` meets its contract (proofs/FirstTerm.antt).
+use Prim.Native.Nat.{◌+◌}
+use mathlib.Core.Path.{◌≡◌, subst}
+use native.Mathlib.Omega.{arith}
+use lib.ListN.{length, take}
+use borrow.Author.Rules.{rules}
+use Rattle.monomial.specs.Sizes.{most_variables}
+use Rattle.tabtext.specs.Answers as answers
+use Rattle.tabtext.specs.declared.terms.Next.TheVariants.{At}
+use Rattle.checks.proofs.KeptTerm.{KeepsTerm}
+use Rattle.checks.proofs.FirstTerm.{too_many, no-first, line_refused, good-first, padded-first, later}
+use Rattle.checks.proofs.generator.check_generator.Goals.{After-of, After-read_term-t, In-At}
+use Rattle.checks.proofs.generator.check_generator.Goals as goal
+
+-- What was read is the term.
+reads : (c : In-At) → let a = c.args in let r = c.read_term-t.result in
+    answers.TermSays a.n a.text.now (a.start + 1) (At c.in-At.i) r.coefficient r.row
+reads c =
+    let a = c.args in
+    let r = c.read_term-t in
+    subst (λ i. answers.TermSays a.n a.text.now (a.start + 1) i r.result.coefficient r.result.row) c.in-At.is r.ensures
+
+full : (c : After-read_term-t) → length c.read_term-t.result.row ≡ most_variables
+full c = search (c.read_term-t.type_inv, rules)
+
+keeps : (c : After-of) → let a = c.args in
+    KeepsTerm a.p a.n (c.read_term-t.result.coefficient, take a.n c.read_term-t.result.row) c.of.result c.monomial_of-m.result
+keeps c = record { coefficient = c.of.ensures.0; monomial = c.monomial_of-m.ensures }
+
+pub returns-then-k-gt-MAX_LINES : goal.returns-then-k-gt-MAX_LINES
+returns-then-k-gt-MAX_LINES c terms a h = too_many _ _ _ terms h (omega arith)
+
+pub returns-in_default : goal.returns-in_default
+returns-in_default c terms a h =
+    let s = c.args in
+    absurd (no-first _ s.text.now s.start terms a h (rw c.in_default.is at c.read_term-t.ensures))
+
+pub returns-in_default-check : goal.returns-in_default-check
+returns-in_default-check c terms a h =
+    let e = c.in_default-check.is in
+    rw e (line_refused _ _ _ _ _ _ _ _ (reads (goal.at.returns-in_default-check c).In-At) c.check_first-check.ensures _ e (omega arith) terms a h)
+
+pub monomial_of-m-requires : goal.monomial_of-m-requires
+monomial_of-m-requires c =
+    (omega arith, (good-first _ _ _ _ _ _ _ _ (reads (goal.at.monomial_of-m-requires c).In-At) c.check_first-check.ensures c.in-Pass.is).2)
+
+pub of-requires : goal.of-requires
+of-requires c =
+    omega (arith, (good-first _ _ _ _ _ _ _ _ (reads (goal.at.of-requires c).In-At) c.check_first-check.ensures c.in-Pass.is).1)
+
+pub read_later-requires : goal.read_later-requires
+read_later-requires c =
+    let r = reads (goal.at.read_later-requires c).In-At in
+    let none = c.empty-none.ensures in
+    (c.requires.0, r.inside, padded-first _ _ _ _ _ _ _ _ r c.check_first-check.ensures c.in-Pass.is _ _ _ _ none (keeps (goal.at.read_later-requires c).After-of) c.with_term-first.ensures)
+
+pub returns : goal.returns
+returns c =
+    let l = c.read_later in
+    later _ _ _ _ _ _ _ _ (reads (goal.at.returns c).In-At) c.check_first-check.ensures c.in-Pass.is _ _ _ _ c.empty-none.ensures (keeps (goal.at.returns c).After-of) c.with_term-first.ensures
+    c.args.k l.result.check l.result.generator (omega (arith, c.if-k-gt-MAX_LINES.false)) (omega (arith, full (goal.at.returns c).After-read_term-t, c.requires)) l.ensures

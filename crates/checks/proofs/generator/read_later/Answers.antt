@@ -1,0 +1,78 @@
+-- `read_later` meets its contract (proofs/LaterTerms.antt).
+use Prim.Native.Nat.{◌+◌}
+use mathlib.Core.Path.{◌≡◌, sym, subst, ◌∙◌}
+use mathlib.Core.Bool.{true}
+use native.Mathlib.Omega.{arith}
+use borrow.Author.Rules.{rules}
+use lib.ListN.{length, take, drop}
+use Rattle.monomial.specs.Sizes.{most_variables}
+use Rattle.tabtext.specs.Readers.{starts_with}
+use Rattle.tabtext.specs.Answers as answers
+use Rattle.tabtext.specs.declared.terms.Next.TheVariants.{At}
+use Rattle.checks.proofs.KeptTerm.{KeepsTerm}
+use Rattle.checks.proofs.LaterTerms.{NextTerm, start, stop, no-later-term, refused, room, good, turn}
+use Rattle.checks.proofs.generator.read_later.Goals.{After-check_next-check, After-of, After-read_term-t, In-At}
+use Rattle.checks.proofs.generator.read_later.Goals as goal
+
+-- A tab stands before the term, and what was read is the term.
+tab : (c : After-read_term-t) → starts_with 9 (drop c.loop-last.at c.args.text.now) ≡ true
+tab c = sym c.byte_is.ensures ∙ c.loop-last-test.true
+
+reads : (c : In-At) → let a = c.args in let r = c.read_term-t.result in
+    answers.TermSays a.n a.text.now (c.loop-last.at + 1) (At c.in-At.i) r.coefficient r.row
+reads c =
+    let a = c.args in
+    let r = c.read_term-t in
+    subst (λ i. answers.TermSays a.n a.text.now (c.loop-last.at + 1) i r.result.coefficient r.result.row) c.in-At.is r.ensures
+
+full : (c : After-read_term-t) → length c.read_term-t.result.row ≡ most_variables
+full c = search (c.read_term-t.type_inv, rules)
+
+-- The term that stands next, and the answer to it.
+term : (c : After-check_next-check) → let a = c.args in let l = c.loop-last in let r = c.read_term-t.result in
+    NextTerm a.p a.n a.text.now l.g.terms l.last l.at c.in-At.i r.coefficient r.row c.check_next-check.result
+term c = record { tab = tab (goal.at.After-check_next-check c).After-read_term-t; reads = reads (goal.at.After-check_next-check c).In-At; says = c.check_next-check.ensures }
+
+keeps : (c : After-of) → let a = c.args in let r = c.read_term-t.result in
+    KeepsTerm a.p a.n (r.coefficient, take a.n r.row) c.of.result c.monomial_of-last.result
+keeps c = record { coefficient = c.of.ensures.0; monomial = c.monomial_of-last.ensures }
+
+pub loop-last-init : goal.loop-last-init
+loop-last-init c = let (_, inside, padded) = c.requires in start _ _ _ _ _ _ inside padded
+
+pub overflow_add-at : goal.overflow_add-at
+overflow_add-at c = omega (arith, c.loop-last.invariant.inside)
+
+pub returns-in_default : goal.returns-in_default
+returns-in_default c =
+    let i = c.loop-last.invariant in
+    let missing = rw c.in_default.is at c.read_term-t.ensures in
+    λ left before a h. let rest = i.rest left before a h in absurd (no-later-term _ _ c.loop-last.at rest.left rest.ahead (tab (goal.at.returns-in_default c).After-read_term-t) missing)
+
+pub returns-in_default-check : goal.returns-in_default-check
+returns-in_default-check c =
+    let e = c.in_default-check.is in
+    rw e (refused _ _ _ _ _ _ _ _ _ c.loop-last.invariant _ _ _ _ (term (goal.at.returns-in_default-check c).After-check_next-check) e)
+
+pub monomial_of-last-requires : goal.monomial_of-last-requires
+monomial_of-last-requires c =
+    (omega arith, (good _ _ _ _ _ _ _ _ _ c.loop-last.invariant _ _ _ _ (term (goal.at.monomial_of-last-requires c).After-check_next-check) c.in-Pass.is).2)
+
+pub of-requires : goal.of-requires
+of-requires c =
+    omega (arith, (good _ _ _ _ _ _ _ _ _ c.loop-last.invariant _ _ _ _ (term (goal.at.of-requires c).After-check_next-check) c.in-Pass.is).1)
+
+pub with_term-g-requires : goal.with_term-g-requires
+with_term-g-requires c =
+    room _ _ _ _ _ _ _ _ _ c.loop-last.invariant _ _ _ _ (term (goal.at.with_term-g-requires c).After-check_next-check) c.in-Pass.is
+
+pub loop-last-smaller : goal.loop-last-smaller
+loop-last-smaller c = let t = (term (goal.at.loop-last-smaller c).After-check_next-check).reads in omega (arith, t.after, t.inside)
+
+pub loop-last-preserved : goal.loop-last-preserved
+loop-last-preserved c =
+    turn _ _ _ _ _ _ _ _ _ c.loop-last.invariant _ _ _ _ (term (goal.at.loop-last-preserved c).After-check_next-check) c.in-Pass.is
+    (omega (arith, full (goal.at.loop-last-preserved c).After-read_term-t, c.requires.0)) (keeps (goal.at.loop-last-preserved c).After-of) c.with_term-g.ensures
+
+pub returns : goal.returns
+returns c = stop _ _ _ _ _ _ _ _ _ c.loop-last.invariant (sym c.byte_is.ensures ∙ c.loop-last-test.false)
