@@ -36,7 +36,8 @@ fn divided_by_another(g: Generator, i: usize, leads: Leads, n: usize) -> bool
 {
     let mut j: usize = 0;
     while j < leads.count {
-        if j != i && divides_term(leads.monomials[j], g, n) {
+        let other = j != i;
+        if other && divides_term(leads.monomials[j], g, n) {
             return true;
         }
         j += 1;

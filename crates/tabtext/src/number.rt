@@ -40,7 +40,8 @@ pub fn read_number(text: &[u8], at: usize) -> NumberRead
     if 9 < d {
         return NumberRead::Bad;
     }
-    if d == 0 {
+    let zero = d == 0;
+    if zero {
         return NumberRead::Value(0, at + 1);
     }
     let mut v = d;

@@ -9,7 +9,7 @@ use Rattle.lists.proofs.Elements.{length-mapped}
 use Rattle.lists.proofs.Testing.{sought-found, sought-all, denied}
 use Rattle.lines.specs.Sizes.{most_lines}
 use Rattle.staircase.proofs.DividedPlaces.{divided-by-another-iff}
-use Rattle.staircase.proofs.divided.divided_by_another.Goals.{else-j-i-via-then-j-i+else-divides_term, else-j-i-via-else-j-i}
+use Rattle.staircase.proofs.divided.divided_by_another.Goals.{else-other-via-then-other+else-divides_term, else-other-via-else-other}
 use Rattle.staircase.proofs.divided.divided_by_another.Goals as goal
 
 pub loop-j-init : goal.loop-j-init
@@ -19,16 +19,16 @@ loop-j-init c =
 
 pub returns-then-divides_term : goal.returns-then-divides_term
 returns-then-divides_term c =
-    Iff.trans (sought-found c.loop-j.j (omega arith) (c.if-j-i.true, c.divides_term.ensures.0 c.if-divides_term.true))
+    Iff.trans (sought-found c.loop-j.j (omega arith) (c.if-other.true, c.divides_term.ensures.0 c.if-divides_term.true))
     (Iff.symm (divided-by-another-iff _ _ _ _ _ c.loop-j.invariant.1))
 
 pub loop-j-preserved : goal.loop-j-preserved
 loop-j-preserved c = (
   omega arith,
   c.loop-j.invariant.1,
-  below_more _ _ c.loop-j.invariant.2 (elim c.else-j-i.branch [
-    | else-j-i-via-then-j-i+else-divides_term w ↦ λ (d, t). denied w.divides_term.ensures w.if-divides_term.false t
-    | else-j-i-via-else-j-i w ↦ λ (d, t). d w.if-j-i.false
+  below_more _ _ c.loop-j.invariant.2 (elim c.else-other.branch [
+    | else-other-via-then-other+else-divides_term w ↦ λ (d, t). denied w.divides_term.ensures w.if-divides_term.false t
+    | else-other-via-else-other w ↦ λ (d, t). d w.if-other.false
   ]),
 )
 

@@ -21,16 +21,16 @@ within c =
 pub overflow_add-result : goal.overflow_add-result
 overflow_add-result c = omega (arith, within (goal.at.overflow_add-result c).Else-d-gt9)
 
-pub returns-then-d-eq0 : goal.returns-then-d-eq0
-returns-then-d-eq0 c =
+pub returns-then-zero : goal.returns-then-zero
+returns-then-zero c =
     let a = c.args in
-    zero-first a.text.now a.at _ c.digit_at-d.ensures c.if-d-eq0.true
+    zero-first a.text.now a.at _ c.digit_at-d.ensures c.if-zero.true
 
 pub overflow_add-i : goal.overflow_add-i
 overflow_add-i c = omega (arith, within (goal.at.overflow_add-i c).Else-d-gt9)
 
 pub loop-k-init : goal.loop-k-init
-loop-k-init c = start _ _ _ c.digit_at-d.ensures c.if-d-gt9.false c.if-d-eq0.false
+loop-k-init c = start _ _ _ c.digit_at-d.ensures c.if-d-gt9.false c.if-zero.false
 
 pub returns-then-e-gt9 : goal.returns-then-e-gt9
 returns-then-e-gt9 c = stop _ _ _ _ _ c.loop-k.invariant _ c.digit_at-e.ensures c.if-e-gt9.true
