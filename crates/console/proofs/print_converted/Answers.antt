@@ -2,5 +2,5 @@
 use Rattle.convert.proofs.Meets.{accepted-fits}
 use Rattle.console.proofs.print_converted.Goals as goal
 
-pub print_bytes-requires : goal.print_bytes-requires
-print_bytes-requires g c = accepted-fits c.judge-answer.ensures.meets c.in-Accepted.size c.in-Accepted.is
+pub print_bytes-printed-requires : goal.print_bytes-printed-requires
+print_bytes-printed-requires g c = accepted-fits c.judge-answer.ensures.meets c.in-Accepted.size c.in-Accepted.is
