@@ -1,9 +1,9 @@
 -- Believed. Outcomes of a text, and the checks that they come from (document 01, "Refused texts").
 --   Judged                     refused with a number and a line, or passed
---   refuse_if_else_            a check of a line, and those after it
+--   refuse◌if◌else◌            a check of a line, and those after it
 --   pass                       no check is left
---   refuse_at-smallest_else_   a check that names the smallest line of which it speaks, and those after it
---   refuse_at-0-if_else_       a check that names no line, and those after it
+--   refuse◌at_smallest◌else◌   a check that names the smallest line of which it speaks, and those after it
+--   refuse◌at_0_if◌else◌       a check that names no line, and those after it
 use Rattle.std.specs.Prelude.{ℕ, ◌<◌, ◌≡◌, ◌⊎◌}
 use Rattle.std.proofs.Math.Option.{Option, none, some}
 

@@ -1,5 +1,5 @@
 -- Checks 2 to 11 as a function of the text.
---   refuse_when_else_      one check, and the outcome of those after it
+--   refuse◌when◌else◌      one check, and the outcome of those after it
 --   judge_header           3, 4, 5 on the basis line
 --   judge_term             6, 7 on a term
 --   judge_terms            10, 6, 7, 8 on the later terms of a poly line

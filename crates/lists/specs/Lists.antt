@@ -1,5 +1,5 @@
 -- Believed. Lists: their elements, and what holds of them.
---   x ∈ l          x is an element of the list (_∈_)
+--   x ∈ l          x is an element of the list (◌∈◌)
 --   Bytes          lists of bytes
 --   Each P l       every element of the list has P
 --   Once l         no element stands twice in the list

@@ -1,7 +1,7 @@
 -- Inner contracts. Readers: what stands at the front of a list of bytes, and the bytes after it.
 --   Got A, Reader A      a value and the bytes after it, or bad; a reader of such values
---   pure, _>>=_, _>>_    a value and no byte; one reader after another
---   _or_                 the second reader where the first is bad
+--   pure, ◌>>=◌, ◌>>◌    a value and no byte; one reader after another
+--   ◌or◌                 the second reader where the first is bad
 --   first s              the first byte
 --   starts_with b s      whether the byte b stands first
 --   read_byte b          the byte b
