@@ -1,7 +1,6 @@
 -- `read_basis` meets its contract (proofs/BasisLine.antt).
 use Prim.Native.Nat.{ℕ}
 use mathlib.Core.Path.{sym, ◌∙◌}
-use mathlib.Core.Logic.{⊎_elim}
 use mathlib.Core.Option.{none}
 use native.Mathlib.Omega.{arith}
 use Rattle.lists.specs.Lists.{Bytes}

@@ -1,7 +1,6 @@
 -- `read_line` meets its contract.
 use Prim.Native.Nat.{ℕ, ◌+◌}
 use mathlib.Core.Path.{◌≡◌, sym, subst, ◌∙◌}
-use mathlib.Core.Logic.{⊎_elim}
 use native.Mathlib.Omega.{arith}
 use Rattle.lists.specs.Lists.{Bytes}
 use Rattle.answer.specs.declared.Check.{Check}

@@ -3,7 +3,7 @@ use Prim.Native.Nat.{ℕ, ◌-◌}
 use mathlib.Core.List.{List}
 use lib.ListN.{length}
 use Rattle.lines.specs.Stored.{Arrays, lines_in}
-use Rattle.checks.proofs.LinesLoop.{LinesInv, start}
+use Rattle.checks.proofs.LinesLoop.{LinesInv}
 use Rattle.checks.proofs.basis.read_lines.Given as goal
 
 -- The arrays have their lengths, and their lines are those read so far.

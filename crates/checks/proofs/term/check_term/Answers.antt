@@ -1,9 +1,9 @@
 -- `check_term` meets its contract.
 use mathlib.Core.Path.{refl, sym, ◌∙◌}
 use mathlib.Core.Bool.{false≢true}
-use mathlib.Core.Logic.{inl, inr, ⊎_elim}
+use mathlib.Core.Logic.{inl, inr}
 use native.Mathlib.Omega.{arith}
-use borrow.Author.Tests.{leb-true, leb-false}
+use borrow.Author.Tests.{leb-false}
 use Rattle.checks.proofs.term.check_term.Goals.{then-coefficient-lt1-via-then-coefficient-lt1, then-coefficient-lt1-via-else-coefficient-lt1+then-p-coefficient}
 use Rattle.checks.proofs.term.check_term.Goals as goal
 

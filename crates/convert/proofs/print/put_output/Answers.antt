@@ -16,7 +16,7 @@ use Rattle.fglm.specs.Lex.{LexBasis, lex_in}
 use Rattle.convert.specs.LexText.{generator_lines, written_of}
 use Rattle.convert.proofs.LinePlaces.{held-lines}
 use Rattle.convert.proofs.OutputParts.{output, written-output}
-use Rattle.convert.proofs.print.put_output.Goals.{After-slice_known-2-1, After-slice_known-3-1, After-slice_known-4-1, After-slice_known-5-1, Start}
+use Rattle.convert.proofs.print.put_output.Goals.{After-put_header-i, After-put_lines-i, After-put_standard-i, After-put_count-i, Start}
 use Rattle.convert.proofs.print.put_output.Goals as goal
 
 -- The lex basis that is lent.
@@ -60,60 +60,60 @@ put_header-i-requires c =
     let s = (goal.at.put_header-i-requires c).Start in
     (c.requires.basis.0.variables.most, left-room (basis-line s) (poly-lines s ++ (standard-line s ++ (points-line s ++ end_line s))) refl (all s))
 
-after-header : (c : After-slice_known-2-1) →
-    let s = (goal.at.After-slice_known-2-1 c).Start in
+after-header : (c : After-put_header-i) →
+    let s = (goal.at.After-put_header-i c).Start in
     let p = c.put_header-i in
     Rest s (poly-lines s ++ (standard-line s ++ (points-line s ++ end_line s))) p.new.out p.result
 unfolding bytes
 after-header c =
-    let s = (goal.at.After-slice_known-2-1 c).Start in
+    let s = (goal.at.After-put_header-i c).Start in
     left_less (basis-line s) _ refl (all s) c.put_header-i.ensures
 
 pub put_lines-i-requires : goal.put_lines-i-requires
 put_lines-i-requires c =
     let s = (goal.at.put_lines-i-requires c).Start in
-    let room = left-room (poly-lines s) (standard-line s ++ (points-line s ++ end_line s)) refl (after-header (goal.at.put_lines-i-requires c).After-slice_known-2-1) in
+    let room = left-room (poly-lines s) (standard-line s ++ (points-line s ++ end_line s)) refl (after-header (goal.at.put_lines-i-requires c).After-put_header-i) in
     record { arrays = c.requires.arrays; basis = (held-lines c.requires.basis.0, room) }
 
-after-lines : (c : After-slice_known-3-1) →
-    let s = (goal.at.After-slice_known-3-1 c).Start in
+after-lines : (c : After-put_lines-i) →
+    let s = (goal.at.After-put_lines-i c).Start in
     let p = c.put_lines-i in
     Rest s (standard-line s ++ (points-line s ++ end_line s)) p.new.out p.result
-after-lines c = left_less _ _ refl (after-header (goal.at.After-slice_known-3-1 c).After-slice_known-2-1) c.put_lines-i.ensures
+after-lines c = left_less _ _ refl (after-header (goal.at.After-put_lines-i c).After-put_header-i) c.put_lines-i.ensures
 
 pub put_standard-i-requires : goal.put_standard-i-requires
 put_standard-i-requires c =
     let s = (goal.at.put_standard-i-requires c).Start in
     let given = c.requires.basis.0 in
-    (given.printable.count, given.variables, left-room (standard-line s) (points-line s ++ end_line s) refl (after-lines (goal.at.put_standard-i-requires c).After-slice_known-3-1))
+    (given.printable.count, given.variables, left-room (standard-line s) (points-line s ++ end_line s) refl (after-lines (goal.at.put_standard-i-requires c).After-put_lines-i))
 
-after-standard : (c : After-slice_known-4-1) →
-    let s = (goal.at.After-slice_known-4-1 c).Start in
+after-standard : (c : After-put_standard-i) →
+    let s = (goal.at.After-put_standard-i c).Start in
     let p = c.put_standard-i in
     Rest s (points-line s ++ end_line s) p.new.out p.result
-after-standard c = left_less _ _ refl (after-lines (goal.at.After-slice_known-4-1 c).After-slice_known-3-1) c.put_standard-i.ensures
+after-standard c = left_less _ _ refl (after-lines (goal.at.After-put_standard-i c).After-put_lines-i) c.put_standard-i.ensures
 
 pub put_count-i-requires : goal.put_count-i-requires
 unfolding bytes
 put_count-i-requires c =
     let s = (goal.at.put_count-i-requires c).Start in
-    left-room (points-line s) (end_line s) refl (after-standard (goal.at.put_count-i-requires c).After-slice_known-4-1)
+    left-room (points-line s) (end_line s) refl (after-standard (goal.at.put_count-i-requires c).After-put_standard-i)
 
-after-points : (c : After-slice_known-5-1) →
-    let s = (goal.at.After-slice_known-5-1 c).Start in
+after-points : (c : After-put_count-i) →
+    let s = (goal.at.After-put_count-i c).Start in
     let p = c.put_count-i in
     Rest s (end_line s) p.new.out p.result
 unfolding bytes
-after-points c = left_less (points-line (goal.at.After-slice_known-5-1 c).Start) _ refl (after-standard (goal.at.After-slice_known-5-1 c).After-slice_known-4-1) c.put_count-i.ensures
+after-points c = left_less (points-line (goal.at.After-put_count-i c).Start) _ refl (after-standard (goal.at.After-put_count-i c).After-put_standard-i) c.put_count-i.ensures
 
 pub overflow_cast-lex-2 : goal.overflow_cast-lex-2
 overflow_cast-lex-2 c = omega (arith, c.requires.basis.0.printable.lines)
 
 pub put_count-requires : goal.put_count-requires
 unfolding bytes
-put_count-requires c = (after-points (goal.at.put_count-requires c).After-slice_known-5-1).room
+put_count-requires c = (after-points (goal.at.put_count-requires c).After-put_count-i).room
 
 pub returns : goal.returns
 unfolding bytes
 returns c h =
-    rw (parts (goal.at.returns c).Start h) (left-last (after-points (goal.at.returns c).After-slice_known-5-1) c.put_count.ensures)
+    rw (parts (goal.at.returns c).Start h) (left-last (after-points (goal.at.returns c).After-put_count-i) c.put_count.ensures)

@@ -1,6 +1,5 @@
 -- `Monomial::compare_backwards` meets its contract. The loop's invariant: the variables below i decide.
 use mathlib.Core.Path.{◌≡◌, refl}
-use mathlib.Core.Logic.{⊎_elim}
 use native.Mathlib.Omega.{arith}
 use Rattle.monomial.specs.Orders.{lex, backwards}
 use Rattle.monomial.proofs.LexSteps.{lex-tie, lex-decided, backwards-cons}

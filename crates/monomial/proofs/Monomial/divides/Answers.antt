@@ -2,7 +2,6 @@
 use native.Mathlib.Omega.{arith}
 use borrow.Author.Count.{below_more}
 use Rattle.lists.proofs.Testing.{tested-failed, tested-all, same_answer}
-use Rattle.monomial.specs.Rows.{exponent}
 use Rattle.monomial.proofs.Products.{divides-at}
 use Rattle.monomial.proofs.Monomial.divides.Goals as goal
 

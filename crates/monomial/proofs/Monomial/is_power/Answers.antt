@@ -2,7 +2,6 @@
 use native.Mathlib.Omega.{arith}
 use borrow.Author.Count.{below_more}
 use Rattle.lists.proofs.Testing.{tested-failed, tested-all, same_answer}
-use Rattle.monomial.specs.Rows.{exponent}
 use Rattle.monomial.proofs.Products.{power_at}
 use Rattle.monomial.proofs.Monomial.is_power.Goals.{else-i-v-via-then-i-v+else-exponent-ne0, else-i-v-via-else-i-v}
 use Rattle.monomial.proofs.Monomial.is_power.Goals as goal

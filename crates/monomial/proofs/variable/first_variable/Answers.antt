@@ -1,7 +1,6 @@
 -- `first_variable` meets its contract. The loop's invariant: the exponents of the variables below i are 0.
 use native.Mathlib.Omega.{arith}
 use borrow.Author.Count.{below_more}
-use Rattle.monomial.specs.Rows.{exponent}
 use Rattle.monomial.proofs.variable.first_variable.Goals as goal
 
 pub returns-then-exponent-ne0 : goal.returns-then-exponent-ne0

@@ -1,7 +1,7 @@
 -- `is_modulus` meets its contract. The loop's invariant: no number from 2 to d - 1 divides p.
 use mathlib.Core.Path.{◌≡◌, refl}
 use mathlib.Core.Bool.{true, false, false≢true}
-use mathlib.Core.Logic.{◌↔◌, ⊎_elim}
+use mathlib.Core.Logic.{◌↔◌}
 use Prim.Native.Nat.{ℕ}
 use native.Mathlib.Omega.{arith}
 use Rattle.residue.specs.Prime.{Modulus}
