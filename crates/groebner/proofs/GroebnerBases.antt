@@ -1,7 +1,7 @@
 -- Steps of the division, and what they say of Groebner bases.
 --   Head f              the leading monomial of a polynomial, or that it is zero; head_of
 --   Trace bound f r     f as the sum of the multiples that were subtracted, all below a bound, and its remainder; trace
--- Of steps: step_value, step-above, step-inside, leading-kept
+-- Of steps: step_value, place, step-above, step-under, regroup, step-inside, leading-kept
 -- Of any lines: remainder-member (T2: a polynomial and its remainder differ by an element of the ideal), member-remainder, ideal-of-zero, zero-remainder
 -- Of a Groebner basis: zero-of-finished, groebner-zero (T4: elements of the ideal have remainder zero), groebner-NF
 -- groebner-of-zero: lines under which every element of the ideal has remainder zero are a Groebner basis
@@ -101,19 +101,19 @@ module _ {F M : Type 0} {R : Arithmetic F} {𝓜 : Monomials M} {lt : M → M �
           ∙ ap (λ r. coef R 𝓜 r k) (groebner-zero gb (tidy-proper f) q.1 (ideal-same ring 𝓜 _ (tidy f) f (tidy-same f) (ideal-of-member 𝓟 ord G low f a))) ∙ coef-nil ring 𝓜 k
 
   -- An irreducible leading monomial survives the division.
-  step_value : {f f' : Poly F M} (s : Step R 𝓜 lt G f f') (k : M) → coef R 𝓜 f' k ≡ add (coef R 𝓜 f k) (neg (mul s.c (coef R 𝓜 (shift 𝓜 s.u (polynomial R s.g)) k)))
+  pub step_value : {f f' : Poly F M} (s : Step R 𝓜 lt G f f') (k : M) → coef R 𝓜 f' k ≡ add (coef R 𝓜 f k) (neg (mul s.c (coef R 𝓜 (shift 𝓜 s.u (polynomial R s.g)) k)))
   step_value {f} s k = s.outcome k ∙ coef-minus ring 𝓜 f (scale R s.c (shift 𝓜 s.u (polynomial R s.g))) k ∙ ap (λ x. add (coef R 𝓜 f k) (neg x)) (coef-scale ring 𝓜 s.c (shift 𝓜 s.u (polynomial R s.g)) k)
 
-  place : {f f' : Poly F M} (s : Step R 𝓜 lt G f f') → s.g ∈ G
+  pub place : {f f' : Poly F M} (s : Step R 𝓜 lt G f f') → s.g ∈ G
   place s = earliest-in 𝓟 ord G s.m s.g s.earliest
 
-  step-above : {f f' : Poly F M} (s : Step R 𝓜 lt G f f') (k : M) → lt s.m k → coef R 𝓜 f' k ≡ coef R 𝓜 f k
+  pub step-above : {f f' : Poly F M} (s : Step R 𝓜 lt G f f') (k : M) → lt s.m k → coef R 𝓜 f' k ≡ coef R 𝓜 f k
   unfolding self
   step-above {f} s k h = step_value s k ∙ ap (λ x. add (coef R 𝓜 f k) (neg (mul s.c x))) (coef-above 𝓟 ord G low s.g (place s) s.u k (subst (λ z. lt z k) s.quotient h))
       ∙ ap (λ x. add (coef R 𝓜 f k) (neg x)) (mul-zero ring s.c) ∙ ap (add (coef R 𝓜 f k)) (opposite-null (self ring)) ∙ ring.add_zero _
 
   -- monomials at which f does not vanish
-  step-under : {f f' : Poly F M} (s : Step R 𝓜 lt G f f') → Polynomial R f → (m : M) → ((k : M) → lt m k → coef R 𝓜 f k ≡ 𝟘) → (s.m ≡ m) ⊎ lt s.m m
+  pub step-under : {f f' : Poly F M} (s : Step R 𝓜 lt G f f') → Polynomial R f → (m : M) → ((k : M) → lt m k → coef R 𝓜 f k ≡ 𝟘) → (s.m ≡ m) ⊎ lt s.m m
   step-under {f} s p m h = go (ord.total s.m m)
     where
       go : lt s.m m ⊎ ((s.m ≡ m) ⊎ lt m s.m) → (s.m ≡ m) ⊎ lt s.m m
@@ -140,7 +140,7 @@ module _ {F M : Type 0} {R : Arithmetic F} {𝓜 : Monomials M} {lt : M → M �
       go (yes r) = r
       go (no n) = absurd ((leading-kept (all (tidy f) (tidy-proper f) (ideal-same ring 𝓜 _ (tidy f) f (tidy-same f) a)) (tidy-proper f) m n lead').0 (coef-nil ring 𝓜 m))
 
-  regroup : (a b s r x : F) → x ≡ add a (neg b) → x ≡ add s r → a ≡ add (add b s) r
+  pub regroup : (a b s r x : F) → x ≡ add a (neg b) → x ≡ add s r → a ≡ add (add b s) r
   unfolding self
   regroup a b s r x p q = sym (plus-around (self ring) b a) ∙ ap (add b) (sym p ∙ q) ∙ sym (ring.add_assoc b s r)
 

@@ -2,6 +2,8 @@
 --   Ideals by definition 1.1 of 001: ideal-zero (i), ideal-add (ii), ideal-times (iii); generators: ideal-gen; ideal-same
 --   member-line, member-of-ideal, ideal-of-member: the ideal of the lines is that of their rewriting system
 --   coef-combination-nil, coef-combination-cons: the coefficients of a rules_combined of their multiples
+--   add_cofactors, times-append, coef-add-cofactors   cofactors, added one by one
+--   cofactor_at, coef-cofactor-at                     a cofactor at one generator
 use mathlib.Core.Path.{◌≡◌, refl, sym, ◌∙◌, ap, ap₂, subst, fun_ext}
 use mathlib.Core.List.Memᴰ
 use mathlib.Core.List.{List, [], ◌∷◌, ◌++◌, map}
@@ -25,41 +27,42 @@ use Rattle.groebner.proofs.Division.{LinePlace, rewriting}
 module _ {F M : Type 0} {R : Arithmetic F} (ring : Ring R) (𝓜 : Monomials M) where
   open R use {zero as 𝟘, add}
 
-  join : List (Poly F M) → List (Poly F M) → List (Poly F M)
-  join [] ss = ss
-  join (r ∷ rs) [] = r ∷ rs
-  join (r ∷ rs) (s ∷ ss) = (r ++ s) ∷ join rs ss
+  -- Cofactors, added one by one.
+  unfoldable pub add_cofactors : List (Poly F M) → List (Poly F M) → List (Poly F M)
+  add_cofactors [] ss = ss
+  add_cofactors (r ∷ rs) [] = r ∷ rs
+  add_cofactors (r ∷ rs) (s ∷ ss) = (r ++ s) ∷ add_cofactors rs ss
 
-  times-append : (r s f : Poly F M) (k : M) → coef R 𝓜 (times R 𝓜 (r ++ s) f) k ≡ add (coef R 𝓜 (times R 𝓜 r f) k) (coef R 𝓜 (times R 𝓜 s f) k)
+  pub times-append : (r s f : Poly F M) (k : M) → coef R 𝓜 (times R 𝓜 (r ++ s) f) k ≡ add (coef R 𝓜 (times R 𝓜 r f) k) (coef R 𝓜 (times R 𝓜 s f) k)
   unfolding self
   times-append r s f k = coef-times ring 𝓜 (r ++ s) f k ∙ lin-append (self ring) _ r s ∙ ap₂ add (sym (coef-times ring 𝓜 r f k)) (sym (coef-times ring 𝓜 s f k))
 
-  coef-join : (rs ss fs : List (Poly F M)) (k : M) → coef R 𝓜 (combine R 𝓜 (join rs ss) fs) k ≡ add (coef R 𝓜 (combine R 𝓜 rs fs) k) (coef R 𝓜 (combine R 𝓜 ss fs) k)
-  unfolding join self
-  coef-join [] ss fs k = sym (ap₂ add (coef-nil ring 𝓜 k) refl ∙ zero-add ring _)
-  coef-join (r ∷ rs) [] fs k = sym (ap (add (coef R 𝓜 (combine R 𝓜 (r ∷ rs) fs) k)) (coef-nil ring 𝓜 k) ∙ ring.add_zero _)
-  coef-join (r ∷ rs) (s ∷ ss) [] k = coef-nil ring 𝓜 k ∙ sym (ap₂ add (coef-nil ring 𝓜 k) (coef-nil ring 𝓜 k) ∙ ring.add_zero 𝟘)
-  coef-join (r ∷ rs) (s ∷ ss) (f ∷ fs) k = coef-append ring 𝓜 _ _ k ∙ ap₂ add (times-append r s f k) (coef-join rs ss fs k)
+  pub coef-add-cofactors : (rs ss fs : List (Poly F M)) (k : M) → coef R 𝓜 (combine R 𝓜 (add_cofactors rs ss) fs) k ≡ add (coef R 𝓜 (combine R 𝓜 rs fs) k) (coef R 𝓜 (combine R 𝓜 ss fs) k)
+  unfolding add_cofactors self
+  coef-add-cofactors [] ss fs k = sym (ap₂ add (coef-nil ring 𝓜 k) refl ∙ zero-add ring _)
+  coef-add-cofactors (r ∷ rs) [] fs k = sym (ap (add (coef R 𝓜 (combine R 𝓜 (r ∷ rs) fs) k)) (coef-nil ring 𝓜 k) ∙ ring.add_zero _)
+  coef-add-cofactors (r ∷ rs) (s ∷ ss) [] k = coef-nil ring 𝓜 k ∙ sym (ap₂ add (coef-nil ring 𝓜 k) (coef-nil ring 𝓜 k) ∙ ring.add_zero 𝟘)
+  coef-add-cofactors (r ∷ rs) (s ∷ ss) (f ∷ fs) k = coef-append ring 𝓜 _ _ k ∙ ap₂ add (times-append r s f k) (coef-add-cofactors rs ss fs k)
       ∙ plus-medial (self ring) _ _ _ _ ∙ sym (ap₂ add (coef-append ring 𝓜 _ _ k) (coef-append ring 𝓜 _ _ k))
 
-  -- The cofactor r at one generator, zero at the others
-  at : {f : Poly F M} {fs : List (Poly F M)} → f ∈ fs → Poly F M → List (Poly F M)
-  at (Memᴰ.head e) r = r ∷ []
-  at (Memᴰ.tail p) r = [] ∷ at p r
+  -- The cofactor r at one generator, zero at the others.
+  unfoldable pub cofactor_at : {f : Poly F M} {fs : List (Poly F M)} → f ∈ fs → Poly F M → List (Poly F M)
+  cofactor_at (Memᴰ.head e) r = r ∷ []
+  cofactor_at (Memᴰ.tail p) r = [] ∷ cofactor_at p r
 
-  coef-at : {f : Poly F M} {fs : List (Poly F M)} (p : f ∈ fs) (r : Poly F M) (k : M) → coef R 𝓜 (combine R 𝓜 (at p r) fs) k ≡ coef R 𝓜 (times R 𝓜 r f) k
-  unfolding at expand
-  coef-at (Memᴰ.head e) r k = coef-append ring 𝓜 _ [] k ∙ ap₂ add (ap (λ f. coef R 𝓜 (times R 𝓜 r f) k) (sym e)) (coef-nil ring 𝓜 k) ∙ ring.add_zero _
-  coef-at (Memᴰ.tail p) r k = coef-at p r k
+  pub coef-cofactor-at : {f : Poly F M} {fs : List (Poly F M)} (p : f ∈ fs) (r : Poly F M) (k : M) → coef R 𝓜 (combine R 𝓜 (cofactor_at p r) fs) k ≡ coef R 𝓜 (times R 𝓜 r f) k
+  unfolding cofactor_at expand
+  coef-cofactor-at (Memᴰ.head e) r k = coef-append ring 𝓜 _ [] k ∙ ap₂ add (ap (λ f. coef R 𝓜 (times R 𝓜 r f) k) (sym e)) (coef-nil ring 𝓜 k) ∙ ring.add_zero _
+  coef-cofactor-at (Memᴰ.tail p) r k = coef-cofactor-at p r k
 
   pub ideal-zero : (fs : List (Poly F M)) (f : Poly F M) → ((k : M) → coef R 𝓜 f k ≡ 𝟘) → Ideal R 𝓜 fs f
   ideal-zero fs f h = ([], λ k. h k ∙ sym (coef-nil ring 𝓜 k))
 
   pub ideal-add : (fs : List (Poly F M)) (f g h : Poly F M) → ((k : M) → coef R 𝓜 h k ≡ add (coef R 𝓜 f k) (coef R 𝓜 g k)) → Ideal R 𝓜 fs f → Ideal R 𝓜 fs g → Ideal R 𝓜 fs h
-  ideal-add fs f g h e a b = (join a.0 b.0, λ k. e k ∙ ap₂ add (a.1 k) (b.1 k) ∙ sym (coef-join a.0 b.0 fs k))
+  ideal-add fs f g h e a b = (add_cofactors a.0 b.0, λ k. e k ∙ ap₂ add (a.1 k) (b.1 k) ∙ sym (coef-add-cofactors a.0 b.0 fs k))
 
   pub ideal-gen : (fs : List (Poly F M)) (f : Poly F M) → f ∈ fs → (r h : Poly F M) → Same R 𝓜 h (times R 𝓜 r f) → Ideal R 𝓜 fs h
-  ideal-gen fs f p r h e = (at p r, λ k. e k ∙ sym (coef-at p r k))
+  ideal-gen fs f p r h e = (cofactor_at p r, λ k. e k ∙ sym (coef-cofactor-at p r k))
 
   pub ideal-same : (fs : List (Poly F M)) (f g : Poly F M) → Same R 𝓜 f g → Ideal R 𝓜 fs g → Ideal R 𝓜 fs f
   ideal-same fs f g h a = (a.0, λ k. h k ∙ a.1 k)

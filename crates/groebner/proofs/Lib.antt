@@ -1,7 +1,7 @@
 -- The theorems of the crate `groebner`. T1 to T13 are those that docs/MATHEMATICS.md tells.
 --   Base: Modules, Linear, Terms, Ground, Lists, Members, LinearMaps
 --   Remainders: NormalForms, Division (T1, T2)
---   Ideals and Groebner bases: Ideals, GroebnerBases (T2, T4), SPairs, Buchberger (T3), CoprimeLeads, Congruence (T4), Leads, LeadingTerms, Clear, Uniqueness (T8)
+--   Ideals and Groebner bases: Ideals, GroebnerBases (T2, T4), DivisionAlgorithm, SPairs, Buchberger (T3), CoprimeLeads, Congruence (T4), Leads, LeadingTerms, ReducedBases, Clear, Uniqueness (T8)
 --   Two orders: Spans, Images, OtherLines, ChangeOfOrder (T6, T7), Equivalence (T9)
 --   Zero dimension (T5): Decisions, ZeroDimension, PowerLeads
 --   Multiplication rows (T13): Variables, DotProducts, ClearLines, NormalCoefficients, Commute, MultiplicationRows
@@ -21,12 +21,14 @@ pub mod NormalForms
 pub mod Division
 pub mod Ideals
 pub mod GroebnerBases
+pub mod DivisionAlgorithm
 pub mod SPairs
 pub mod Buchberger
 pub mod CoprimeLeads
 pub mod Congruence
 pub mod Leads
 pub mod LeadingTerms
+pub mod ReducedBases
 pub mod Clear
 pub mod Uniqueness
 pub mod Spans
