@@ -36,8 +36,10 @@
 --   Usable            demand 2, its last sentence, follows from the outcome
 --   ExactlyUsable     no other text is refused only where the output is too short
 --   Meets             the outcome is all that the converter has to prove
+--   Functional        the contract leaves no choice
 --   LineOrder         inputs that differ only in the order of their poly lines give equal bytes
 --   DottedCases       the cases of document 01 with a dot: one list, one claim
+--   WrongConverters   the wrong converters of document 01 do not meet the contract
 pub mod SizesSuffice
 pub mod FewIrreducible
 pub mod ComputedGround
@@ -71,5 +73,7 @@ pub mod RoomSuffices
 pub mod Usable
 pub mod ExactlyUsable
 pub mod Meets
+pub mod Functional
 pub mod LineOrder
 pub mod DottedCases
+pub mod WrongConverters

@@ -133,9 +133,11 @@ module _ (p : ℕ) (k : 1 < p) (n : ℕ) where
         (λ g. (lines-among h ls ks (λ ts. (same ts).0) g, lines-among h ks ls (λ ts. (same ts).1) g)) (r.reduced, r.finite) (s.reduced, s.finite) r.H s.H r.B s.B r.converts s.converts in
         r.output ∙ ap₂ (written p h n) e f ∙ sym s.output
 
+  -- The lines ls and ks are the same lines, each in any order and number.
+  module _ (ls ks : List (List Term)) (same : (line : List Term) → (line ∈ ls) ↔ (line ∈ ks)) where
     pub lines-in-any-order : Each (Form n) (grevlex_lines p n ls) → Each (Form n) (grevlex_lines p n ks) → (room room' : ℕ) (out out' : Bytes)
         → Outcome (text (grevlex_lines p n ls)) room (passed out) → Outcome (text (grevlex_lines p n ks)) room' (passed out') → out ≡ out'
     lines-in-any-order form form' room room' out out' a b =
         let (prime, r) = outcome-result ls form room out a in
         let (prime', s) = outcome-result ks form' room' out' b in
-        results-equal prime out out' r (subst (λ (h : 1 < p). Result p h n ks out') (le_prop prime'.above_one prime.above_one) s)
+        results-equal ls ks same prime out out' r (subst (λ (h : 1 < p). Result p h n ks out') (le_prop prime'.above_one prime.above_one) s)

@@ -8,13 +8,13 @@ use mathlib.Core.List.{List, [], ◌∷◌, ◌++◌, map}
 use mathlib.Core.Logic.{◌⊎◌, inl, inr}
 use Rattle.lists.specs.Lists.{◌∈◌}
 use Rattle.residue.specs.Field.{Arithmetic}
-use Rattle.residue.specs.RingLaws.{Ring, Field}
+use Rattle.residue.specs.RingLaws.{Ring}
 use Rattle.monomial.specs.Ordering.{Monomials}
 use Rattle.monomial.proofs.OrderLaws.{MonomialOrder}
-use Rattle.groebner.specs.Polynomials.{Poly, Polynomial, scale, expand, shift, times, coef, Same}
+use Rattle.groebner.specs.Polynomials.{Poly, Polynomial, expand, shift, times, coef, Same}
 use Rattle.groebner.specs.Lines.{Line, polynomial}
 use Rattle.groebner.specs.Criteria.{Low}
-use Rattle.groebner.specs.Remainders.{Normal, Step, Remainder, done, step}
+use Rattle.groebner.specs.Remainders.{Normal, Remainder, done, step}
 use Rattle.groebner.specs.Ideals.{combine}
 use Rattle.groebner.proofs.Modules.{mul-zero}
 use Rattle.groebner.proofs.Terms.{coef-nil, coef-append, coef-scale}
