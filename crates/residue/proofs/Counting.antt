@@ -1,13 +1,14 @@
--- The loop of `counted`: b counts up from a, with the product m of a and b beside it, until m is 1.
+-- The loop of `counted`: b counts up from a, with the product m of a and b beside it, until m is 1 or b is p - 1.
 --   Counting p a b m      b is at most the reciprocal of a, and m is the product of a and b
 --   counting-start        it holds at b = a if no reciprocal is below a
 --   reciprocal-positive   zero is no reciprocal
 --   counting-below        m is a residue
 --   counting-turn         it holds at b + 1 if m is not 1
 --   counting-stop         if m is 1, b is the reciprocal of a
-use mathlib.Core.Path.{◌≡◌, refl, ◌∙◌, sym, ap}
+--   counting-last         if b is p - 1, it is the reciprocal of a
+use mathlib.Core.Path.{◌≡◌, refl, ◌∙◌, sym, ap, subst}
 use mathlib.Core.Logic.{⊎_elim, by_cases}
-use Prim.Native.Nat.{ℕ, zero, suc, ◌+◌, ◌*◌, ◌%◌, ◌≤◌, ◌<◌}
+use Prim.Native.Nat.{ℕ, zero, suc, ◌+◌, ◌-◌, ◌*◌, ◌%◌, ◌≤◌, ◌<◌}
 use native.Mathlib.Nat.{eq-or-lt_of_le, mod-add-mod, mod-lt, mul-zero, zero-mod}
 use native.Mathlib.Decide.{dec_lt}
 use native.Mathlib.Omega.{arith}
@@ -53,3 +54,8 @@ module _ (p a b m : ℕ) (c : Counting p a b m) where
 
   pub counting-stop : m ≡ 1 → Reciprocal p a b
   counting-stop e = record { below = omega arith; inverse = sym c.multiple ∙ e }
+
+  pub counting-last : p - 1 ≤ b → Reciprocal p a (p - 1)
+  counting-last l =
+      let e : c.target ≡ p - 1 = omega (arith, c.reciprocal.below) in
+      subst (Reciprocal p a) e c.reciprocal

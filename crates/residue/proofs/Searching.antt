@@ -1,4 +1,4 @@
--- The loop of `is_modulus`: d counts up from 2, and no number below it divides p, until d · d is above p.
+-- The loop of `is_modulus`: d counts up from 2, and no number below it divides p, until d · d is above p or d is p.
 --   Undivided p d     no number from 2 to d - 1 divides p
 --   undivided-start   it holds at d = 2
 --   undivided-fits    d · d is at most 251 · 251
@@ -6,9 +6,10 @@
 --   undivided-turn    it holds at d + 1 if d does not divide p
 --   undivided-found   if d divides p, p is no modulus
 --   undivided-stop    if d · d is above p, p is a modulus
+--   undivided-all     if d is p, p is a modulus
 use mathlib.Core.Path.{◌≡◌}
 use Prim.Native.Nat.{ℕ, ◌+◌, ◌*◌, ◌%◌, ◌≤◌, ◌<◌}
-use native.Mathlib.Nat.{mul-le-mul}
+use native.Mathlib.Nat.{mul-le-mul, le_refl}
 use native.Mathlib.Decide.{dec_le}
 use native.Mathlib.Omega.{arith}
 use borrow.Author.Count.{below_more}
@@ -53,3 +54,6 @@ module _ (p d : ℕ) (u : Undivided p d) where
       below : (k : ℕ) → k * k ≤ p → Dec (d ≤ k) → k < d
       below k h (yes m) = absurd (omega (arith, mul-le-mul m m))
       below k h (no n) = omega arith
+
+  pub undivided-all : p ≤ d → Modulus p
+  undivided-all l = undivided-stop (omega (arith, mul-le-mul u.above_one (le_refl d)))

@@ -15,7 +15,7 @@ pub mod prime;
 pub mod reciprocals;
 pub mod word;
 
-#[derive(Clone, Copy)]
+#[derive(Clone, Copy, PartialEq, Eq)]
 pub struct Residue(pub u16);
 
 impl Residue {
@@ -34,7 +34,7 @@ impl Residue {
     pub fn is_zero(self) -> bool
         ensures { result ≡ eqb self.0 0 }
     {
-        self.0 == 0
+        self == Residue::ZERO
     }
 
     pub fn add(self, other: Residue, p: u16) -> Residue
@@ -60,7 +60,7 @@ impl Residue {
         requires { self.0 < p }
         ensures { (result.0 ≡ negation_mod p self.0) × (result.0 < p) }
     {
-        if self.0 == 0 {
+        if self.is_zero() {
             Residue::ZERO
         } else {
             Residue(p - self.0)

@@ -18,12 +18,13 @@ pub fn is_modulus(p: u32) -> bool
     if p < 2 || (LARGEST_MODULUS as u32) < p {
         return false;
     }
-    let mut d: u32 = 2;
-    while d * d <= p {
+    for d in 2..p {
+        if p < d * d {
+            return true;
+        }
         if p % d == 0 {
             return false;
         }
-        d += 1;
     }
     true
 }

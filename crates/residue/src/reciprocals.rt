@@ -13,18 +13,19 @@ pub struct Reciprocals {
     pub table: [u16; LARGEST_MODULUS as usize],
 }
 
-// The reciprocal of a, if none is below a: b counts up from a, with a·b beside it, until a·b is 1.
+// The reciprocal of a, if none is below a: b counts up from a, with a·b beside it, until a·b is 1. Where none below p - 1 is, p - 1 is.
 fn counted(a: Residue, p: u16) -> Residue
     requires { Modulus p × (0 < a.0) × (a.0 < p) × ((b : ℕ) → b < a.0 → ¬ (product_mod p a.0 b ≡ 1)) }
     ensures { (product_mod p a.0 result.0 ≡ 1) × (result.0 < p) }
 {
-    let mut b = a.0;
     let mut multiple = a.mul(a, p);
-    while multiple.0 != 1 {
-        b += 1;
+    for b in a.0..p - 1 {
+        if multiple == Residue::ONE {
+            return Residue(b);
+        }
         multiple = multiple.add(a, p);
     }
-    Residue(b)
+    Residue(p - 1)
 }
 
 impl Reciprocals {
@@ -34,14 +35,12 @@ impl Reciprocals {
         ensures { (result.p ≡ p) × Serves result }
     {
         let mut table = [0u16; LARGEST_MODULUS as usize];
-        let mut a: u16 = 1;
-        while a < p {
+        for a in 1..p {
             if table[a as usize] == 0 {
                 let b = counted(Residue(a), p).0;
                 table[a as usize] = b;
                 table[b as usize] = a;
             }
-            a += 1;
         }
         Reciprocals { p, table }
     }

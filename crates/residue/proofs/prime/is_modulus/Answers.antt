@@ -5,7 +5,7 @@ use mathlib.Core.Logic.{◌↔◌}
 use Prim.Native.Nat.{ℕ}
 use native.Mathlib.Omega.{arith}
 use Rattle.residue.specs.Prime.{Modulus}
-use Rattle.residue.proofs.Searching.{undivided-start, undivided-fits, undivided-less, undivided-turn, undivided-found, undivided-stop}
+use Rattle.residue.proofs.Searching.{undivided-start, undivided-fits, undivided-turn, undivided-found, undivided-stop, undivided-all}
 use Rattle.residue.proofs.prime.is_modulus.Goals.{then-p-lt2-via-then-p-lt2, then-p-lt2-via-else-p-lt2+then-p}
 use Rattle.residue.proofs.prime.is_modulus.Goals as goal
 
@@ -25,14 +25,14 @@ loop-d-init c = undivided-start _ c.if-p-lt2.false c.if-p.false
 pub overflow_mul-d : goal.overflow_mul-d
 overflow_mul-d c = omega (arith, undivided-fits _ _ c.loop-d.invariant)
 
+pub returns-then-p-d : goal.returns-then-p-d
+returns-then-p-d c = (λ _. undivided-stop _ _ c.loop-d.invariant c.if-p-d.true, λ _. refl)
+
 pub returns-then-p-d-eq0 : goal.returns-then-p-d-eq0
 returns-then-p-d-eq0 c = refused (undivided-found _ _ c.loop-d.invariant (omega arith) c.if-p-d-eq0.true)
-
-pub loop-d-smaller : goal.loop-d-smaller
-loop-d-smaller c = omega (arith, undivided-less _ _ c.loop-d.invariant (omega arith))
 
 pub loop-d-preserved : goal.loop-d-preserved
 loop-d-preserved c = undivided-turn _ _ c.loop-d.invariant (omega arith) c.if-p-d-eq0.false
 
 pub returns : goal.returns
-returns c = (λ _. undivided-stop _ _ c.loop-d.invariant c.loop-d-test.false, λ _. refl)
+returns c = (λ _. undivided-all _ _ c.loop-d.invariant c.loop-d-test.false, λ _. refl)

@@ -1,5 +1,7 @@
 -- `counted` meets its contract. The loop's invariant: b is at most the reciprocal of a, and the multiple is the product of a and b.
-use Rattle.residue.proofs.Counting.{counting-start, counting-below, counting-turn, counting-stop}
+use mathlib.Core.Path.{sym, ◌∙◌}
+use borrow.Author.Tests.{eqb-true, eqb-false}
+use Rattle.residue.proofs.Counting.{counting-start, counting-below, counting-turn, counting-stop, counting-last}
 use Rattle.residue.proofs.reciprocals.counted.Goals as goal
 
 pub mul-multiple-requires : goal.mul-multiple-requires
@@ -7,21 +9,26 @@ mul-multiple-requires c =
     let (m, _, k, _) = c.requires in
     (k, k, m.size)
 
-pub loop-multiple-init : goal.loop-multiple-init
-loop-multiple-init c =
+pub loop-b-init : goal.loop-b-init
+loop-b-init c =
     let (m, h, k, n) = c.requires in
     rw c.mul-multiple.ensures.0 (counting-start _ _ m.prime h k n)
 
 pub add-multiple-requires : goal.add-multiple-requires
 add-multiple-requires c =
     let (m, _, k, _) = c.requires in
-    (counting-below _ _ _ _ c.loop-multiple.invariant, k, m.size)
+    (counting-below _ _ _ _ c.loop-b.invariant, k, m.size)
 
-pub loop-multiple-preserved : goal.loop-multiple-preserved
-loop-multiple-preserved c =
-    rw c.add-multiple.ensures.0 (counting-turn _ _ _ _ c.loop-multiple.invariant c.loop-multiple-test.true)
+pub returns-then-eq : goal.returns-then-eq
+returns-then-eq c =
+    let s = counting-stop _ _ _ _ c.loop-b.invariant (eqb-true _ _ (sym c.eq.ensures ∙ c.if-eq.true)) in
+    (s.inverse, s.below)
+
+pub loop-b-preserved : goal.loop-b-preserved
+loop-b-preserved c =
+    rw c.add-multiple.ensures.0 (counting-turn _ _ _ _ c.loop-b.invariant (eqb-false _ _ (sym c.eq.ensures ∙ c.if-eq.false)))
 
 pub returns : goal.returns
 returns c =
-    let s = counting-stop _ _ _ _ c.loop-multiple.invariant c.loop-multiple-test.false in
+    let s = counting-last _ _ _ _ c.loop-b.invariant c.loop-b-test.false in
     (s.inverse, s.below)
