@@ -47,8 +47,8 @@ module _ (ranks : List ℕ) {count w k : ℕ} (so_far : Unseen (λ j. get_or ran
   pub rank-found : get_or ranks k 0 ≡ w → FirstRank ranks count w k
   rank-found e = record { within = so_far.within; found = λ _. e; first = so_far.nowhere }
 
-  pub rank-nowhere : count ≤ k → FirstRank ranks count w k
-  rank-nowhere h = record { within = so_far.within; found = λ u. absurd (omega arith); first = so_far.nowhere }
+  pub rank-nowhere : count ≤ k → FirstRank ranks count w count
+  rank-nowhere h = record { within = omega arith; found = λ u. absurd (omega arith); first = λ j u. so_far.nowhere j (omega arith) }
 
 -- Rising ranks, of which the first are smaller than w.
 module _ (ranks : List ℕ) {count w : ℕ} (rising : RisingRanks ranks count) where

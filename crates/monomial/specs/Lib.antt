@@ -7,6 +7,7 @@
 -- Inner contracts:
 --   Quotients       quotients, least common multiples, divisibility, powers of a variable
 --   Represented     the row that a value of the code holds
+--   Combined        two monomials, combined exponent by exponent
 --   FirstVariable   the first variable of a monomial
 --   Least           the place with the least value
 --   Ranks           ranks of monomials
@@ -16,6 +17,7 @@ pub mod Quotients
 pub mod Orders
 pub mod Ordering
 pub mod Represented
+pub mod Combined
 pub mod FirstVariable
 pub mod Least
 pub mod Ranks

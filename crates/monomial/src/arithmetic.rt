@@ -1,9 +1,10 @@
 // Product, quotient and least common multiple of monomials (document 01, "Words and orders").
 ghost use Rattle.std.specs.Prelude.{◌≡◌, ℕ, ◌+◌, ◌-◌, ◌<◌, ◌≤◌, max};
 ghost use Rattle.monomial.specs.Sizes.{most_variables};
-ghost use Rattle.monomial.specs.Rows.{exponent, one, product};
+ghost use Rattle.monomial.specs.Rows.{Row, exponent, one, product};
 ghost use Rattle.monomial.specs.Quotients.{quotient, lcm};
 ghost use Rattle.monomial.specs.Represented.{row, monomial, most_entry};
+ghost use Rattle.monomial.specs.Combined.{Combines, Combined};
 
 use crate::{Exponent, MAX_VARIABLES, Monomial};
 
@@ -42,18 +43,30 @@ impl Monomial {
         }
     }
 
+    // The monomial that f makes of self and other, exponent by exponent.
+    fn combined<F: Fn(Exponent, Exponent) -> Exponent>(
+        self,
+        other: Monomial,
+        n: usize,
+        f: F,
+    ) -> Monomial
+        requires variables { n ≤ most_variables }
+        requires combines { Combines n (λ x y. F.pre f x y) self other }
+        ensures { (a : Row n) → Combined n (λ x y z. F.post f x y z) self other a → result ≡ monomial n a }
+    {
+        let mut m = Monomial::one();
+        for i in 0..n {
+            m.e[i] = f(self.exponent(i), other.exponent(i));
+        }
+        m
+    }
+
     // Exponents are added. Each sum fits an exponent.
     pub fn product(self, other: Monomial, n: usize) -> Monomial
         requires { (n ≤ most_variables) × ((i : ℕ) → i < n → exponent n (row n self) i + exponent n (row n other) i ≤ most_entry) }
         ensures { result ≡ monomial n (product n (row n self) (row n other)) }
     {
-        let mut m = Monomial::one();
-        let mut i: usize = 0;
-        while i < n {
-            m.e[i] = self.exponent(i).add(other.exponent(i));
-            i += 1;
-        }
-        m
+        self.combined(other, n, Exponent::add)
     }
 
     // Exponents are subtracted. The divisor divides self.
@@ -61,13 +74,7 @@ impl Monomial {
         requires { (n ≤ most_variables) × ((i : ℕ) → i < n → exponent n (row n other) i ≤ exponent n (row n self) i) }
         ensures { result ≡ monomial n (quotient n (row n self) (row n other)) }
     {
-        let mut m = Monomial::one();
-        let mut i: usize = 0;
-        while i < n {
-            m.e[i] = self.exponent(i).sub(other.exponent(i));
-            i += 1;
-        }
-        m
+        self.combined(other, n, Exponent::sub)
     }
 
     // The larger of each two exponents.
@@ -75,12 +82,6 @@ impl Monomial {
         requires { n ≤ most_variables }
         ensures { result ≡ monomial n (lcm n (row n self) (row n other)) }
     {
-        let mut m = Monomial::one();
-        let mut i: usize = 0;
-        while i < n {
-            m.e[i] = self.exponent(i).larger(other.exponent(i));
-            i += 1;
-        }
-        m
+        self.combined(other, n, Exponent::larger)
     }
 }

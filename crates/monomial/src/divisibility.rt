@@ -11,12 +11,10 @@ impl Monomial {
         requires { n ≤ most_variables }
         ensures { result ≡ divides n (row n self) (row n other) }
     {
-        let mut i: usize = 0;
-        while i < n {
+        for i in 0..n {
             if other.exponent(i).0 < self.exponent(i).0 {
                 return false;
             }
-            i += 1;
         }
         true
     }
@@ -26,12 +24,10 @@ impl Monomial {
         requires { n ≤ most_variables }
         ensures { result ≡ is_power n v (row n self) }
     {
-        let mut i: usize = 0;
-        while i < n {
+        for i in 0..n {
             if i != v && self.exponent(i).0 != 0 {
                 return false;
             }
-            i += 1;
         }
         true
     }

@@ -58,9 +58,7 @@ impl Monomial {
         requires { n ≤ most_variables }
         ensures { result ≡ lex n (backwards n) (row n self) (row n other) }
     {
-        let mut i: usize = n;
-        while 0 < i {
-            i -= 1;
+        for i in (0..n).rev() {
             let c = self.compare_at(other, i);
             match c {
                 Comparison::Equal => {}
@@ -78,10 +76,8 @@ impl Monomial {
         ensures { result ≡ degree n (row n self) }
     {
         let mut d: u32 = 0;
-        let mut i: usize = 0;
-        while i < n {
+        for i in 0..n {
             d += self.exponent(i).0 as u32;
-            i += 1;
         }
         d
     }

@@ -23,14 +23,12 @@ pub fn first_variable(m: Monomial, n: usize) -> usize
     requires { n ≤ most_variables }
     ensures { FirstVariable n (row n m) result }
 {
-    let mut i: usize = 0;
-    while i < n {
+    for i in 0..n {
         if m.exponent(i).0 != 0 {
             return i;
         }
-        i += 1;
     }
-    i
+    n
 }
 
 // m / x_i, for x_i that divides m.

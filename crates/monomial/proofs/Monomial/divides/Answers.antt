@@ -13,7 +13,7 @@ returns-then-exponent c =
 pub loop-i-preserved : goal.loop-i-preserved
 loop-i-preserved c =
     let h = c.loop-i-test.true in
-    (omega arith, below_more _ _ c.loop-i.invariant.1 (omega (arith, c.exponent.ensures _ h, c.exponent-in-loop-i.ensures _ h)))
+    below_more _ _ c.loop-i.invariant (omega (arith, c.exponent.ensures _ h, c.exponent-in-loop-i.ensures _ h))
 
 pub returns : goal.returns
-returns c = same_answer (tested-all c.loop-i.i (omega arith) c.loop-i.invariant.1) (divides-at _ _ _)
+returns c = same_answer (tested-all c.loop-i.i (omega arith) c.loop-i.invariant) (divides-at _ _ _)

@@ -1,11 +1,8 @@
 -- `Monomial::divides` meets its contract. The loop's invariant: no exponent below place i is larger.
-use Prim.Native.Nat.{ℕ, ◌≤◌, ◌<◌, ◌-◌}
+use Prim.Native.Nat.{ℕ, ◌≤◌, ◌<◌}
 use Rattle.monomial.specs.Rows.{exponent}
 use Rattle.monomial.specs.Represented.{row}
 use Rattle.monomial.proofs.Monomial.divides.Given as goal
 
 abbrev pub invariant-loop-i : goal.invariant-loop-i
-invariant-loop-i l = (l.i ≤ l.n) × ((k : ℕ) → k < l.i → exponent l.n (row l.n l.self) k ≤ exponent l.n (row l.n l.other) k)
-
-abbrev pub decreases-loop-i : goal.decreases-loop-i
-decreases-loop-i l = l.n - l.i
+invariant-loop-i l = (k : ℕ) → k < l.i → exponent l.n (row l.n l.self) k ≤ exponent l.n (row l.n l.other) k

@@ -13,13 +13,11 @@ returns-then-exponent-ne0 c =
 
 pub loop-i-preserved : goal.loop-i-preserved
 loop-i-preserved c =
-    let h = c.loop-i-test.true in (
-      omega arith,
-      below_more _ _ c.loop-i.invariant.1 (λ d. elim c.else-i-v.branch [
-        | else-i-v-via-then-i-v+else-exponent-ne0 w ↦ omega (arith, w.exponent.ensures _ h, w.if-exponent-ne0.false)
-        | else-i-v-via-else-i-v w ↦ absurd (d w.if-i-v.false)
-      ]),
-    )
+    let h = c.loop-i-test.true in
+    below_more _ _ c.loop-i.invariant (λ d. elim c.else-i-v.branch [
+      | else-i-v-via-then-i-v+else-exponent-ne0 w ↦ omega (arith, w.exponent.ensures _ h, w.if-exponent-ne0.false)
+      | else-i-v-via-else-i-v w ↦ absurd (d w.if-i-v.false)
+    ])
 
 pub returns : goal.returns
-returns c = same_answer (tested-all c.loop-i.i (omega arith) c.loop-i.invariant.1) (power_at _ _ _)
+returns c = same_answer (tested-all c.loop-i.i (omega arith) c.loop-i.invariant) (power_at _ _ _)

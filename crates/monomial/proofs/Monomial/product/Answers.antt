@@ -1,21 +1,7 @@
--- `Monomial::product` meets its contract. The loop's invariant: the first i exponents of the product are stored.
+-- `Monomial::product` meets its contract.
 use native.Mathlib.Omega.{arith}
 use Rattle.monomial.proofs.Products.{exponent-product}
-use Rattle.monomial.proofs.Filling.{pointwise-none, pointwise-more, pointwise-all}
 use Rattle.monomial.proofs.Monomial.product.Goals as goal
 
-pub add-requires : goal.add-requires
-add-requires c =
-    let h = c.loop-i-test.true in
-    omega (arith, c.exponent.ensures _ h, c.exponent-in-loop-i.ensures _ h, c.requires.1 c.loop-i.i h)
-
-pub loop-i-preserved : goal.loop-i-preserved
-loop-i-preserved c =
-    let h = c.loop-i-test.true in
-    pointwise-more (omega arith) c.loop-i.invariant h c.exponent.ensures c.exponent-in-loop-i.ensures c.add.ensures
-
-pub loop-i-init : goal.loop-i-init
-loop-i-init c = pointwise-none (exponent-product _ _ _) c.one-m.ensures
-
 pub returns : goal.returns
-returns c = pointwise-all c.loop-i.invariant c.loop-i-test.false
+returns c = c.combined.ensures _ (λ i h x y z p q e. omega (arith, p, q, e, exponent-product))
