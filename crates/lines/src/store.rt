@@ -28,10 +28,8 @@ fn monomial_at(exponents: &[u8], at: usize) -> Monomial
 {
     let start = at * MAX_VARIABLES;
     let mut m = Monomial::one();
-    let mut i: usize = 0;
-    while i < MAX_VARIABLES {
+    for i in 0..MAX_VARIABLES {
         m.e[i] = Exponent(exponents[start + i]);
-        i += 1;
     }
     m
 }
@@ -42,11 +40,8 @@ fn put_monomial(exponents: &mut [u8], at: usize, m: Monomial)
     ensures { MonomialPut exponents.old at m exponents.new }
 {
     let start = at * MAX_VARIABLES;
-    let mut i: usize = 0;
-    while i < MAX_VARIABLES {
-        let x = m.e[i];
-        exponents[start + i] = x.0;
-        i += 1;
+    for i in 0..MAX_VARIABLES {
+        exponents[start + i] = m.e[i].0;
     }
 }
 
@@ -69,11 +64,9 @@ pub fn line_at(counts: &[usize], coefficients: &[u16], exponents: &[u8], k: usiz
         coefficients: [Residue::ZERO; MAX_TERMS],
         monomials: [Monomial::one(); MAX_TERMS],
     };
-    let mut j: usize = 0;
-    while j < MAX_TERMS {
+    for j in 0..MAX_TERMS {
         g.coefficients[j] = Residue(coefficients[at + j]);
         g.monomials[j] = monomial_at(exponents, at + j);
-        j += 1;
     }
     g
 }
@@ -92,12 +85,8 @@ pub fn put_line(
 {
     let at = k * MAX_TERMS;
     counts[k] = g.terms;
-    let mut j: usize = 0;
-    while j < MAX_TERMS {
-        let c = g.coefficients[j];
-        let m = g.monomials[j];
-        coefficients[at + j] = c.0;
-        put_monomial(&mut *exponents, at + j, m);
-        j += 1;
+    for j in 0..MAX_TERMS {
+        coefficients[at + j] = g.coefficients[j].0;
+        put_monomial(exponents, at + j, g.monomials[j]);
     }
 }

@@ -9,12 +9,11 @@ use Rattle.lines.proofs.Blocks.{blank, same_line}
 use Rattle.lines.proofs.store.line_at.Goals as goal
 
 pub loop-j-init : goal.loop-j-init
-loop-j-init c = record { within = omega arith; count = refl; coefficient = stored-none _ _ _; monomial = stored-none _ _ _ }
+loop-j-init c = record { count = refl; coefficient = stored-none _ _ _; monomial = stored-none _ _ _ }
 
 pub loop-j-preserved : goal.loop-j-preserved
 loop-j-preserved c =
     let i = c.loop-j.invariant in record {
-      within = omega arith;
       count = i.count;
       coefficient = stored_more _ _ _ _ c.loop-j.j _ i.coefficient (omega arith) refl;
       monomial = stored_more _ _ _ _ c.loop-j.j _ i.monomial (omega arith) c.monomial_at.ensures;

@@ -15,15 +15,15 @@ size : (c : After-one-m) → length c.one-m.result.e ≡ most_variables
 size c = search (length-mapped, rules)
 
 pub loop-i-init : goal.loop-i-init
-loop-i-init c = (omega arith, stored-none _ _ _)
+loop-i-init c = stored-none _ _ _
 
 pub loop-i-preserved : goal.loop-i-preserved
 loop-i-preserved c =
-    (omega arith, stored_more _ _ _ _ c.loop-i.i _ c.loop-i.invariant.1 (omega (arith, size (goal.at.loop-i-preserved c).After-one-m)) refl)
+    stored_more _ _ _ _ c.loop-i.i _ c.loop-i.invariant (omega (arith, size (goal.at.loop-i-preserved c).After-one-m)) refl
 
 pub returns : goal.returns
 unfolding monomial_in
 returns c =
-    let s = c.loop-i.invariant.1 in
+    let s = c.loop-i.invariant in
     ap (λ l. record { e = l })
     (tabulate-of most_variables _ _ (record { 0 = 0 }) (omega (arith, s.size, size (goal.at.returns c).After-one-m)) (λ i h. s.stored i (omega arith)))

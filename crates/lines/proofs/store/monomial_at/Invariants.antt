@@ -1,14 +1,10 @@
 -- `monomial_at` meets its contract. The loop's invariant: the first i exponents are those of the term.
-use Prim.Native.Nat.{◌+◌, ◌-◌, ◌≤◌}
+use Prim.Native.Nat.{◌+◌}
 use mathlib.Core.Path.{◌≡◌}
 use lib.ListN.{get_or}
 use Rattle.lists.proofs.Storing.{FilledTo}
-use Rattle.monomial.specs.Sizes.{most_variables}
 use Rattle.lines.proofs.store.monomial_at.Given as goal
 
 abbrev pub invariant-loop-i : goal.invariant-loop-i
 invariant-loop-i l =
-    (l.i ≤ most_variables) × FilledTo (λ j x. x ≡ record { 0 = get_or l.exponents (l.start + j) 0 }) (record { 0 = 0 }) l.initial.m.e l.m.e l.i
-
-abbrev pub decreases-loop-i : goal.decreases-loop-i
-decreases-loop-i l = most_variables - l.i
+    FilledTo (λ j x. x ≡ record { 0 = get_or l.exponents (l.start + j) 0 }) (record { 0 = 0 }) l.initial.m.e l.m.e l.i

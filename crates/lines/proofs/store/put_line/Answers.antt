@@ -9,19 +9,19 @@ use Rattle.lines.proofs.Blocks.{line-none, line-more, lines-put}
 use Rattle.lines.proofs.store.put_line.Goals as goal
 
 pub loop-j-init : goal.loop-j-init
-loop-j-init c = (omega arith, line-none _ _ _ _)
+loop-j-init c = line-none _ _ _ _
 
 pub loop-j-preserved : goal.loop-j-preserved
 loop-j-preserved c =
     let m = c.put_monomial.ensures in
-    (omega arith, line-more _ _ _ _ _ _ _ c.loop-j.j c.loop-j.invariant.1 (omega arith) (omega arith) m.own m.others)
+    line-more _ _ _ _ _ _ _ c.loop-j.j c.loop-j.invariant (omega arith) (omega arith) m.own m.others
 
 pub returns : goal.returns
 returns c =
     let (inside, arrays) = c.requires in
     let a = c.args in
     let e : c.loop-j.j ≡ most_terms = omega arith in
-    let put = rw e at c.loop-j.invariant.1 in record {
+    let put = rw e at c.loop-j.invariant in record {
       arrays = record {
         terms = simp length-set arrays.terms;
         coefficients = put.coefficients.size ∙ arrays.coefficients;
@@ -35,7 +35,7 @@ pub shape_of-counts : goal.shape_of-counts
 shape_of-counts c = simp length-set refl
 
 pub shape_of-coefficients : goal.shape_of-coefficients
-shape_of-coefficients c = c.loop-j.invariant.1.coefficients.size
+shape_of-coefficients c = c.loop-j.invariant.coefficients.size
 
 pub shape_of-exponents : goal.shape_of-exponents
-shape_of-exponents c = c.loop-j.invariant.1.size
+shape_of-exponents c = c.loop-j.invariant.size

@@ -1,11 +1,6 @@
 -- `put_line` meets its contract. The loop's invariant: the first j terms are stored.
-use Prim.Native.Nat.{◌-◌, ◌≤◌}
-use Rattle.lines.specs.Sizes.{most_terms}
 use Rattle.lines.proofs.Blocks.{LinePut}
 use Rattle.lines.proofs.store.put_line.Given as goal
 
 abbrev pub invariant-loop-j : goal.invariant-loop-j
-invariant-loop-j l = (l.j ≤ most_terms) × LinePut l.g l.at l.initial.coefficients l.initial.exponents l.coefficients l.exponents l.j
-
-abbrev pub decreases-loop-j : goal.decreases-loop-j
-decreases-loop-j l = most_terms - l.j
+invariant-loop-j l = LinePut l.g l.at l.initial.coefficients l.initial.exponents l.coefficients l.exponents l.j

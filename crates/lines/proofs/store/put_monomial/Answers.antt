@@ -14,18 +14,18 @@ size : (c : Start) → length c.args.m.e ≡ most_variables
 size c = search (length-mapped, rules)
 
 pub loop-i-init : goal.loop-i-init
-loop-i-init c = (omega arith, stored-from-none _ _ _ _)
+loop-i-init c = stored-from-none _ _ _ _
 
 pub loop-i-preserved : goal.loop-i-preserved
 loop-i-preserved c =
-    (omega arith, stored-from-more _ _ _ _ _ c.loop-i.i _ c.loop-i.invariant.1 (omega (arith, c.requires)) refl)
+    stored-from-more _ _ _ _ _ c.loop-i.i _ c.loop-i.invariant (omega (arith, c.requires)) refl
 
 pub returns : goal.returns
 returns c =
     let e : c.loop-i.i ≡ most_variables = omega arith in
-    let put = rw e at c.loop-i.invariant.1 in
+    let put = rw e at c.loop-i.invariant in
     let a = c.args in
     record { size = omega (arith, put.size, c.requires.1); own = monomial-here _ _ a.at a.m put (size (goal.at.returns c).Start); others = monomial-other _ _ a.at a.m put }
 
 pub shape_of-exponents : goal.shape_of-exponents
-shape_of-exponents c = c.loop-i.invariant.1.size
+shape_of-exponents c = c.loop-i.invariant.size
