@@ -19,18 +19,16 @@ use Rattle.coordinates.specs.declared.Coordinates.{Coordinates}
 use Rattle.coordinates.proofs.VectorEntries.{past_end}
 
 pub record FilledVector (p : ℕ) (f : ℕ → ℕ) (w : Coordinates) (k : ℕ) : Type 0 where
-  pub within : k ≤ most_standard
   pub whole : FullLength w
   pub entries : (j : ℕ) → j < k → (coordinate w j ≡ f j) × (coordinate w j < p)
 
 module _ {p : ℕ} {f : ℕ → ℕ} {w : Coordinates} where
   pub filled-start : FullLength w → FilledVector p f w 0
-  filled-start l = record { within = omega arith; whole = l; entries = λ j m. absurd (omega arith) }
+  filled-start l = record { whole = l; entries = λ j m. absurd (omega arith) }
 
   module _ {k : ℕ} (filled : FilledVector p f w k) where
     pub filled-turn : {x : Residue} → k < most_standard → (x.0 ≡ f k) × (x.0 < p) → FilledVector p f (record { c = set w.c k x }) (k + 1)
     filled-turn {x} l e = record {
-      within = omega arith;
       whole = length-set w.c k x ∙ filled.whole;
       entries = λ j m. ⊎_elim (here j) (before j) (eq-or-lt_of_le (omega arith));
     }

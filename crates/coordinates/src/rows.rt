@@ -17,10 +17,8 @@ pub fn row_at(cells: &[u16], at: usize) -> Coordinates
     ensures { result ≡ row_in cells.now at }
 {
     let mut r = Coordinates::zero();
-    let mut k: usize = 0;
-    while k < MAX_STANDARD {
+    for k in 0..MAX_STANDARD {
         r.c[k] = Residue(cells[at + k]);
-        k += 1;
     }
     r
 }
@@ -30,11 +28,8 @@ pub fn put_row(cells: &mut [u16], at: usize, row: Coordinates)
     requires { at + most_standard ≤ length cells.old }
     ensures { RowPut cells.old at row cells.new }
 {
-    let mut k: usize = 0;
-    while k < MAX_STANDARD {
-        let c = row.c[k];
-        cells[at + k] = c.0;
-        k += 1;
+    for k in 0..MAX_STANDARD {
+        cells[at + k] = row.c[k].0;
     }
 }
 
@@ -51,10 +46,8 @@ pub fn add_multiple(
         × (c < p) × Below p r × Below p (row_in cells.now at) }
     ensures { AddedMultiple p r c (row_in cells.now at) result }
 {
-    let mut k: usize = 0;
-    while k < MAX_STANDARD {
+    for k in 0..MAX_STANDARD {
         r.c[k] = reduce(r.c[k].0 + c * cells[at + k], over, p);
-        k += 1;
     }
     r
 }

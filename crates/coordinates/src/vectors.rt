@@ -24,10 +24,8 @@ pub fn subtract_multiple(a: Coordinates, c: Residue, other: Coordinates, p: u16)
     let over = word_over(p);
     let minus_c = p - c.0;
     let mut r = a;
-    let mut k: usize = 0;
-    while k < MAX_STANDARD {
+    for k in 0..MAX_STANDARD {
         r.c[k] = reduce(a.c[k].0 + minus_c * other.c[k].0, over, p);
-        k += 1;
     }
     r
 }
@@ -39,10 +37,8 @@ pub fn multiply(c: Residue, a: Coordinates, p: u16) -> Coordinates
 {
     let over = word_over(p);
     let mut r = a;
-    let mut k: usize = 0;
-    while k < MAX_STANDARD {
+    for k in 0..MAX_STANDARD {
         r.c[k] = reduce(c.0 * a.c[k].0, over, p);
-        k += 1;
     }
     r
 }
@@ -64,10 +60,8 @@ pub fn cut(mut r: Coordinates, count: usize) -> Coordinates
     requires { count ≤ most_standard }
     ensures { Cut count r result }
 {
-    let mut k = count;
-    while k < MAX_STANDARD {
+    for k in count..MAX_STANDARD {
         r.c[k] = Residue::ZERO;
-        k += 1;
     }
     r
 }
@@ -77,12 +71,10 @@ pub fn same_coordinates(a: Coordinates, other: Coordinates) -> bool
     ensures { (result ≡ true) ↔ ((k : ℕ) → k < most_standard → coordinate a k ≡ coordinate other k) }
 {
     let mut equal = true;
-    let mut k: usize = 0;
-    while k < MAX_STANDARD {
+    for k in 0..MAX_STANDARD {
         if a.c[k].0 != other.c[k].0 {
             equal = false;
         }
-        k += 1;
     }
     equal
 }
@@ -91,12 +83,10 @@ pub fn same_coordinates(a: Coordinates, other: Coordinates) -> bool
 pub fn first_nonzero(a: Coordinates) -> Found
     ensures { FirstPlace a result }
 {
-    let mut k: usize = 0;
-    while k < MAX_STANDARD {
+    for k in 0..MAX_STANDARD {
         if a.c[k].0 != 0 {
             return Found::Pivot(k);
         }
-        k += 1;
     }
     Found::Dependent
 }

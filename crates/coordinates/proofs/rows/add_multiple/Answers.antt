@@ -21,11 +21,11 @@ size : (c : Start) → length c.args.r.c ≡ most_standard
 size c = search (length-mapped, rules)
 
 pub loop-k-init : goal.loop-k-init
-loop-k-init c = (omega arith, stored-none _ _ _)
+loop-k-init c = stored-none _ _ _
 
 -- Coefficient k is still that of the argument.
 same : (c : In-loop-k) → coordinate c.loop-k.r c.loop-k.k ≡ coordinate c.args.r c.loop-k.k
-same c = ap (λ (x : Residue). x.0) (c.loop-k.invariant.1.kept c.loop-k.k (omega arith))
+same c = ap (λ (x : Residue). x.0) (c.loop-k.invariant.kept c.loop-k.k (omega arith))
 
 -- The number whose remainder is taken fits.
 fits : (c : In-loop-k) → let a = c.args in
@@ -49,11 +49,11 @@ pub loop-k-preserved : goal.loop-k-preserved
 loop-k-preserved c =
     let a = c.args in
     let e = ap (λ x. (x + a.c * get_or a.cells.now (a.at + c.loop-k.k) 0) % a.p) (same (goal.at.loop-k-preserved c).In-loop-k) in
-    (omega arith, stored_more _ _ _ _ c.loop-k.k _ c.loop-k.invariant.1 (omega (arith, size (goal.at.loop-k-preserved c).Start)) (c.reduce.ensures.0 ∙ e, c.reduce.ensures.1))
+    stored_more _ _ _ _ c.loop-k.k _ c.loop-k.invariant (omega (arith, size (goal.at.loop-k-preserved c).Start)) (c.reduce.ensures.0 ∙ e, c.reduce.ensures.1)
 
 pub returns : goal.returns
 returns c =
-    let i = c.loop-k.invariant.1 in
+    let i = c.loop-k.invariant in
     let a = c.args in
     let (_, _, _, _, b, _) = c.requires in
     record {

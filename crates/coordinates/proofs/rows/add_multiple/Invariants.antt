@@ -1,14 +1,10 @@
 -- `add_multiple` meets its contract. The loop's invariant: the first k sums are stored, the other coefficients are those of the argument.
-use Prim.Native.Nat.{◌+◌, ◌*◌, ◌-◌, ◌%◌, ◌<◌, ◌≤◌}
+use Prim.Native.Nat.{◌+◌, ◌*◌, ◌%◌, ◌<◌}
 use mathlib.Core.Path.{◌≡◌}
 use lib.ListN.{get_or}
 use Rattle.lists.proofs.Storing.{FilledTo}
-use Rattle.lines.specs.Sizes.{most_standard}
 use Rattle.coordinates.specs.Vectors.{coordinate}
 use Rattle.coordinates.proofs.rows.add_multiple.Given as goal
 
 abbrev pub invariant-loop-k : goal.invariant-loop-k
-invariant-loop-k l = (l.k ≤ most_standard) × FilledTo (λ j x. (x.0 ≡ (coordinate l.initial.r j + l.c * get_or l.cells (l.at + j) 0) % l.p) × (x.0 < l.p)) (record { 0 = 0 }) l.initial.r.c l.r.c l.k
-
-abbrev pub decreases-loop-k : goal.decreases-loop-k
-decreases-loop-k l = most_standard - l.k
+invariant-loop-k l = FilledTo (λ j x. (x.0 ≡ (coordinate l.initial.r j + l.c * get_or l.cells (l.at + j) 0) % l.p) × (x.0 < l.p)) (record { 0 = 0 }) l.initial.r.c l.r.c l.k

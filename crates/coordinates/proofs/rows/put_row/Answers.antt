@@ -13,14 +13,14 @@ whole : (c : Start) → FullLength c.args.row
 whole c = search (length-mapped, rules)
 
 pub loop-k-init : goal.loop-k-init
-loop-k-init c = (omega arith, stored-from-none _ _ _ _)
+loop-k-init c = stored-from-none _ _ _ _
 
 pub loop-k-preserved : goal.loop-k-preserved
 loop-k-preserved c =
-    (omega arith, stored-from-more _ _ _ _ _ c.loop-k.k _ c.loop-k.invariant.1 (omega (arith, c.requires)) refl)
+    stored-from-more _ _ _ _ _ c.loop-k.k _ c.loop-k.invariant (omega (arith, c.requires)) refl
 
 pub shape_of-cells : goal.shape_of-cells
-shape_of-cells c = c.loop-k.invariant.1.size
+shape_of-cells c = c.loop-k.invariant.size
 
 pub returns : goal.returns
-returns c = row_put _ _ _ _ c.requires (whole (goal.at.returns c).Start) c.loop-k.k (omega arith) c.loop-k.invariant.1
+returns c = row_put _ _ _ _ c.requires (whole (goal.at.returns c).Start) c.loop-k.k (omega arith) c.loop-k.invariant

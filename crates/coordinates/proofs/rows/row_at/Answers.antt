@@ -14,13 +14,13 @@ size : (c : After-zero-r) → length c.zero-r.result.c ≡ most_standard
 size c = search (length-mapped, rules)
 
 pub loop-k-init : goal.loop-k-init
-loop-k-init c = (omega arith, stored-none _ _ _)
+loop-k-init c = stored-none _ _ _
 
 pub loop-k-preserved : goal.loop-k-preserved
 loop-k-preserved c =
-    (omega arith, stored_more _ _ _ _ c.loop-k.k _ c.loop-k.invariant.1 (omega (arith, size (goal.at.loop-k-preserved c).After-zero-r)) refl)
+    stored_more _ _ _ _ c.loop-k.k _ c.loop-k.invariant (omega (arith, size (goal.at.loop-k-preserved c).After-zero-r)) refl
 
 pub returns : goal.returns
 returns c =
     let l = c.loop-k in
-    row_is _ _ c.requires l.r (l.invariant.1.size ∙ size (goal.at.returns c).After-zero-r) (λ k h. l.invariant.1.stored k (omega arith))
+    row_is _ _ c.requires l.r (l.invariant.size ∙ size (goal.at.returns c).After-zero-r) (λ k h. l.invariant.stored k (omega arith))

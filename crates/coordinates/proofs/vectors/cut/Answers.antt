@@ -16,15 +16,15 @@ size : (c : Start) → length c.args.r.c ≡ most_standard
 size c = search (length-mapped, rules)
 
 pub loop-k-init : goal.loop-k-init
-loop-k-init c = (omega arith, c.requires, record { size = refl; stored = λ j h. (λ _. refl, λ m. absurd (omega arith)); kept = λ j h. refl })
+loop-k-init c = record { size = refl; stored = λ j h. (λ _. refl, λ m. absurd (omega arith)); kept = λ j h. refl }
 
 pub loop-k-preserved : goal.loop-k-preserved
 loop-k-preserved c =
-    (omega arith, omega arith, stored_more _ _ _ _ c.loop-k.k _ c.loop-k.invariant.2 (omega (arith, size (goal.at.loop-k-preserved c).Start)) (λ m. absurd (omega arith), λ _. refl))
+    stored_more _ _ _ _ c.loop-k.k _ c.loop-k.invariant (omega (arith, size (goal.at.loop-k-preserved c).Start)) (λ m. absurd (omega arith), λ _. refl)
 
 pub returns : goal.returns
 returns c =
-    let i = c.loop-k.invariant.2 in
+    let i = c.loop-k.invariant in
     record {
       front = λ j h. ap (λ (x : Residue). x.0) ((i.stored j (omega arith)).0 h);
       zeros = λ j h. by_cases (dec_lt j c.loop-k.k) (λ m. (i.stored j m).1 h)

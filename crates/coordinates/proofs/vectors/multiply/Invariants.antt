@@ -1,12 +1,8 @@
 -- `multiply` meets its contract. The loop's invariant: the first k products are stored.
-use Prim.Native.Nat.{◌*◌, ◌-◌, ◌%◌}
-use Rattle.lines.specs.Sizes.{most_standard}
+use Prim.Native.Nat.{◌*◌, ◌%◌}
 use Rattle.coordinates.specs.Vectors.{coordinate}
 use Rattle.coordinates.proofs.FilledVectors.{FilledVector}
 use Rattle.coordinates.proofs.vectors.multiply.Given as goal
 
 abbrev pub invariant-loop-k : goal.invariant-loop-k
 invariant-loop-k l = FilledVector l.p (λ j. l.c.0 * coordinate l.a j % l.p) l.r l.k
-
-abbrev pub decreases-loop-k : goal.decreases-loop-k
-decreases-loop-k l = most_standard - l.k

@@ -10,18 +10,16 @@ use Rattle.coordinates.proofs.vectors.same_coordinates.Goals.{then-a-k, else-a-k
 use Rattle.coordinates.proofs.vectors.same_coordinates.Goals as goal
 
 pub loop-k-init : goal.loop-k-init
-loop-k-init c = (omega arith, tested-none)
+loop-k-init c = tested-none
 
 pub loop-k-preserved : goal.loop-k-preserved
 loop-k-preserved c =
     let a = c.args in
-    let tells : Bool → Type 0 = λ t. (t ≡ true) ↔ ((j : ℕ) → j < c.loop-k.k + 1 → coordinate a.a j ≡ coordinate a.other j) in (
-      omega arith,
-      elim c.if-a-k.branch [
-        | then-a-k w ↦ subst tells (sym w.equal-is) (tested-failed c.loop-k.k (omega arith) (λ e. w.if-a-k.true e))
-        | else-a-k w ↦ subst tells (sym w.equal-is) (tested-more c.loop-k.invariant.1 w.if-a-k.false)
-      ],
-    )
+    let tells : Bool → Type 0 = λ t. (t ≡ true) ↔ ((j : ℕ) → j < c.loop-k.k + 1 → coordinate a.a j ≡ coordinate a.other j) in
+    elim c.if-a-k.branch [
+      | then-a-k w ↦ subst tells (sym w.equal-is) (tested-failed c.loop-k.k (omega arith) (λ e. w.if-a-k.true e))
+      | else-a-k w ↦ subst tells (sym w.equal-is) (tested-more c.loop-k.invariant w.if-a-k.false)
+    ]
 
 pub returns : goal.returns
-returns c = tested-whole (omega arith) c.loop-k.invariant.1
+returns c = tested-whole (omega arith) c.loop-k.invariant

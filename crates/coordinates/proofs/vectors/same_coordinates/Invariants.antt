@@ -1,14 +1,10 @@
 -- `same_coordinates` meets its contract. The loop's invariant: `equal` tells whether the first k coefficients are equal.
-use Prim.Native.Nat.{ℕ, ◌-◌, ◌≤◌, ◌<◌}
+use Prim.Native.Nat.{ℕ, ◌<◌}
 use mathlib.Core.Path.{◌≡◌}
 use mathlib.Core.Bool.{true}
 use mathlib.Core.Logic.{◌↔◌}
-use Rattle.lines.specs.Sizes.{most_standard}
 use Rattle.coordinates.specs.Vectors.{coordinate}
 use Rattle.coordinates.proofs.vectors.same_coordinates.Given as goal
 
 abbrev pub invariant-loop-k : goal.invariant-loop-k
-invariant-loop-k l = (l.k ≤ most_standard) × ((l.equal ≡ true) ↔ ((j : ℕ) → j < l.k → coordinate l.a j ≡ coordinate l.other j))
-
-abbrev pub decreases-loop-k : goal.decreases-loop-k
-decreases-loop-k l = most_standard - l.k
+invariant-loop-k l = ((l.equal ≡ true) ↔ ((j : ℕ) → j < l.k → coordinate l.a j ≡ coordinate l.other j))
