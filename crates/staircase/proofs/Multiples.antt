@@ -1,50 +1,26 @@
--- The search for one of the first monomials of an array that divides m.
---   Searched n count ms m k   the monomials from place k on decide
---   searched-none             at first all of them do
---   searched-found            monomial k divides m
---   searched-more             it does not: those from place k + 1 on decide
---   searched-all              none is left
-use mathlib.Core.Path.{◌≡◌, refl}
-use mathlib.Core.Bool.{Bool, true, false}
-use mathlib.Core.List.{List, [], ◌∷◌}
-use Prim.Native.Nat.{ℕ, ◌+◌, ◌≤◌, ◌<◌}
-use native.Mathlib.Omega.{arith}
-use lib.ListN.{length, get_or, drop}
+-- Whether one of the first monomials of an array divides m.
+--   multiple-first   what a search among them finds
+use mathlib.Core.Path.{◌≡◌, refl, ◌∙◌}
+use mathlib.Core.Bool.{Bool, true, false, ◌||◌}
+use mathlib.Core.List.{List, [], ◌∷◌, map}
+use Prim.Native.Nat.{ℕ}
+use lib.ListN.{take}
+use Rattle.std.specs.List.{list_any}
 use Rattle.monomial.specs.Rows.{Row}
 use Rattle.monomial.specs.Quotients.{divides}
 use Rattle.monomial.specs.Represented.{row}
 use Rattle.monomial.specs.declared.Monomial.{Monomial}
 use Rattle.staircase.specs.Leads.{rows_of, multiple}
-use Rattle.staircase.proofs.ArrayRows.{no_monomial}
-use Rattle.staircase.proofs.RowsInTurn.{rows-from, rows_end}
 
-pub record Searched (n count : ℕ) (ms : List Monomial) (m : Row n) (k : ℕ) : Type 0 where
-  pub within : k ≤ count
-  pub fits : count ≤ length ms
-  pub decides : multiple n (drop k (rows_of n count ms)) m ≡ multiple n (rows_of n count ms) m
-
-multiple-cons : (n : ℕ) (d : Row n) (s : List (Row n)) (m : Row n) → multiple n (d ∷ s) m ≡ elim (divides n d m) [ true ↦ true | false ↦ multiple n s m ]
+multiple-any : (n : ℕ) (m : Row n) (l : List Monomial) → list_any (λ d. divides n (row n d) m) l ≡ multiple n (map (row n) l) m
 unfolding multiple
-multiple-cons n d s m = refl
+multiple-any n m [] = refl
+multiple-any n m (d ∷ l) = go (divides n (row n d) m) (multiple-any n m l)
+  where
+    go : (t : Bool) {u v : Bool} → u ≡ v → (t || u) ≡ elim t [ true ↦ true | false ↦ v ]
+    go true e = refl
+    go false e = e
 
-multiple-nil : (n : ℕ) (m : Row n) → multiple n [] m ≡ false
-unfolding multiple
-multiple-nil n m = refl
-
-pub searched-none : {n count : ℕ} {ms : List Monomial} {m : Row n} → count ≤ length ms → Searched n count ms m 0
-searched-none h = record { within = omega arith; fits = h; decides = refl }
-
-module _ {n count : ℕ} {ms : List Monomial} {m : Row n} {k : ℕ} (so_far : Searched n count ms m k) where
-  -- t is whether monomial k divides m.
-  module _ {t : Bool} (here : k < count) (e : t ≡ divides n (row n (get_or ms k no_monomial)) m) where
-    tested : elim t [ true ↦ true | false ↦ multiple n (drop (k + 1) (rows_of n count ms)) m ] ≡ multiple n (rows_of n count ms) m
-    tested = rw (e, ← multiple-cons, ← rows-from n count ms k here so_far.fits) so_far.decides
-
-    pub searched-found : t ≡ true → true ≡ multiple n (rows_of n count ms) m
-    searched-found q = rw q at tested
-
-    pub searched-more : t ≡ false → Searched n count ms m (k + 1)
-    searched-more q = record { within = omega arith; fits = so_far.fits; decides = rw q at tested }
-
-  pub searched-all : count ≤ k → false ≡ multiple n (rows_of n count ms) m
-  searched-all h = rw (rows_end n count ms k h so_far.fits, multiple-nil) at so_far.decides
+pub multiple-first : (n count : ℕ) (ms : List Monomial) (m : Row n) {t : Bool} → t ≡ list_any (λ d. divides n (row n d) m) (take count ms) → t ≡ multiple n (rows_of n count ms) m
+unfolding rows_of
+multiple-first n count ms m e = e ∙ multiple-any n m (take count ms)

@@ -19,12 +19,10 @@ fn divides_term(d: Monomial, g: Generator, n: usize) -> bool
     requires { (g.terms ≤ most_terms) × (n ≤ most_variables) }
     ensures { (result ≡ true) ↔ DividesTerm n (row n d) g }
 {
-    let mut k: usize = 0;
-    while k < g.terms {
+    for k in 0..g.terms {
         if d.divides(g.monomials[k], n) {
             return true;
         }
-        k += 1;
     }
     false
 }
@@ -34,13 +32,11 @@ fn divided_by_another(g: Generator, i: usize, leads: Leads, n: usize) -> bool
     requires { (g.terms ≤ most_terms) × (leads.count ≤ most_lines) × (n ≤ most_variables) }
     ensures { (result ≡ true) ↔ DividedByAnother n i (lead_monomials n leads) g }
 {
-    let mut j: usize = 0;
-    while j < leads.count {
+    for j in 0..leads.count {
         let other = j != i;
         if other && divides_term(leads.monomials[j], g, n) {
             return true;
         }
-        j += 1;
     }
     false
 }
@@ -56,13 +52,11 @@ pub fn first_divided(
     requires { Stored shape counts.now coefficients.now exponents.now (λ b. Sound b × LeadsOf b leads.count leads.monomials) }
     ensures { FirstDivided (basis_in shape counts.now coefficients.now exponents.now) result }
 {
-    let mut i: usize = 0;
-    while i < shape.lines {
+    for i in 0..shape.lines {
         let g = line_at(counts, coefficients, exponents, i);
         if divided_by_another(g, i, leads, shape.n) {
             return i + 2;
         }
-        i += 1;
     }
     0
 }

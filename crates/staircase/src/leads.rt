@@ -43,10 +43,8 @@ impl Leads {
         ensures { LeadsIn exponents.now lines result.count result.monomials }
     {
         let mut l = Leads::none();
-        let mut i: usize = 0;
-        while i < lines {
+        for i in 0..lines {
             l = l.push(lead_at(exponents, i));
-            i += 1;
         }
         l
     }
@@ -56,13 +54,6 @@ impl Leads {
         requires { (self.count ≤ most_lines) × (n ≤ most_variables) }
         ensures { result ≡ multiple n (lead_monomials n self) (row n m) }
     {
-        let mut k: usize = 0;
-        while k < self.count {
-            if self.monomials[k].divides(m, n) {
-                return true;
-            }
-            k += 1;
-        }
-        false
+        self.monomials[..self.count].iter().any(|d| d.divides(m, n))
     }
 }

@@ -26,9 +26,7 @@ pub fn next(leads: Leads, m: Monomial, ranking: Ranking, n: usize) -> NextMonomi
     ensures { FoundNext n (take n ranking.variables) (multiple n (lead_monomials n leads)) (row n m) result.found result.monomial }
 {
     let mut r = m;
-    let mut i = n;
-    while 0 < i {
-        i -= 1;
+    for i in (0..n).rev() {
         let v = ranking.variables[i];
         r.e[v] = Exponent(r.e[v].0 + 1);
         if !leads.multiple(r, n) {

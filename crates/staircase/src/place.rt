@@ -14,15 +14,12 @@ pub fn place_of(irreducibles: Irreducibles, m: Monomial, n: usize) -> usize
     requires { (n ≤ most_variables) × (irreducibles.count ≤ most_standard) }
     ensures { Place n (listed n irreducibles) irreducibles.count (row n m) result }
 {
-    let mut k: usize = 0;
-    while k < irreducibles.count {
-        let listed = irreducibles.monomials[k];
-        if equal(listed, m, n) {
+    for k in 0..irreducibles.count {
+        if equal(irreducibles.monomials[k], m, n) {
             return k;
         }
-        k += 1;
     }
-    k
+    irreducibles.count
 }
 
 // Monomial k of the list.

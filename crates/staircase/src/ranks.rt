@@ -15,11 +15,8 @@ pub fn put_ranks(ranks: &mut [u64], irreducibles: Irreducibles, n: usize)
     requires { (n ≤ most_variables) × (irreducibles.count ≤ most_standard) × (length ranks.old ≡ most_standard) }
     ensures { RanksOf n (listed n irreducibles) irreducibles.count ranks.new }
 {
-    let mut k: usize = 0;
-    while k < irreducibles.count {
-        let m = irreducibles.monomials[k];
-        ranks[k] = rank(m, n);
-        k += 1;
+    for k in 0..irreducibles.count {
+        ranks[k] = rank(irreducibles.monomials[k], n);
     }
 }
 
@@ -28,10 +25,7 @@ pub fn put_lead_ranks(ranks: &mut [u64], leads: Leads, n: usize)
     requires { (n ≤ most_variables) × (leads.count ≤ most_lines) × (length ranks.old ≡ most_lines) }
     ensures { RanksOf n (lead_monomials n leads) leads.count ranks.new }
 {
-    let mut k: usize = 0;
-    while k < leads.count {
-        let m = leads.monomials[k];
-        ranks[k] = rank(m, n);
-        k += 1;
+    for k in 0..leads.count {
+        ranks[k] = rank(leads.monomials[k], n);
     }
 }

@@ -12,12 +12,10 @@ impl Leads {
         requires { (self.count ≤ most_lines) × (n ≤ most_variables) }
         ensures { (result ≡ true) ↔ PowerIn n v (lead_monomials n self) }
     {
-        let mut k: usize = 0;
-        while k < self.count {
+        for k in 0..self.count {
             if self.monomials[k].is_power(v, n) {
                 return true;
             }
-            k += 1;
         }
         false
     }
@@ -26,12 +24,10 @@ impl Leads {
         requires { (self.count ≤ most_lines) × (n ≤ most_variables) }
         ensures { (result ≡ true) ↔ Powers n (lead_monomials n self) }
     {
-        let mut v: usize = 0;
-        while v < n {
+        for v in 0..n {
             if !self.has_power(v, n) {
                 return false;
             }
-            v += 1;
         }
         true
     }

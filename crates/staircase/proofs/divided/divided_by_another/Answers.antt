@@ -15,18 +15,17 @@ use Rattle.staircase.proofs.divided.divided_by_another.Goals as goal
 pub loop-j-init : goal.loop-j-init
 loop-j-init c =
     let f : length c.args.leads.monomials ≡ most_lines = search (length-mapped, rules) in
-    (omega arith, omega arith, λ k h. absurd (omega arith))
+    (omega arith, λ k h. absurd (omega arith))
 
 pub returns-then-divides_term : goal.returns-then-divides_term
 returns-then-divides_term c =
     Iff.trans (sought-found c.loop-j.j (omega arith) (c.if-other.true, c.divides_term.ensures.0 c.if-divides_term.true))
-    (Iff.symm (divided-by-another-iff _ _ _ _ _ c.loop-j.invariant.1))
+    (Iff.symm (divided-by-another-iff _ _ _ _ _ c.loop-j.invariant.0))
 
 pub loop-j-preserved : goal.loop-j-preserved
 loop-j-preserved c = (
-  omega arith,
-  c.loop-j.invariant.1,
-  below_more _ _ c.loop-j.invariant.2 (elim c.else-other.branch [
+  c.loop-j.invariant.0,
+  below_more _ _ c.loop-j.invariant.1 (elim c.else-other.branch [
     | else-other-via-then-other+else-divides_term w ↦ λ (d, t). denied w.divides_term.ensures w.if-divides_term.false t
     | else-other-via-else-other w ↦ λ (d, t). d w.if-other.false
   ]),
@@ -35,4 +34,4 @@ loop-j-preserved c = (
 pub returns : goal.returns
 returns c =
     let l = c.loop-j in
-    Iff.trans (sought-all l.j (omega arith) l.invariant.2) (Iff.symm (divided-by-another-iff _ _ _ _ _ l.invariant.1))
+    Iff.trans (sought-all l.j (omega arith) l.invariant.1) (Iff.symm (divided-by-another-iff _ _ _ _ _ l.invariant.0))

@@ -1,5 +1,5 @@
 -- `divided_by_another` meets its contract. The loop's invariant: none of the first j, but at place i, divides a monomial of the line.
-use Prim.Native.Nat.{ℕ, ◌≤◌, ◌<◌, ◌-◌}
+use Prim.Native.Nat.{ℕ, ◌≤◌, ◌<◌}
 use mathlib.Core.Path.{◌≡◌}
 use lib.ListN.{length, get_or}
 use Rattle.monomial.specs.Represented.{row}
@@ -9,8 +9,5 @@ use Rattle.staircase.proofs.divided.divided_by_another.Given as goal
 
 abbrev pub invariant-loop-j : goal.invariant-loop-j
 invariant-loop-j l =
-    (l.j ≤ l.leads.count) × (l.leads.count ≤ length l.leads.monomials)
+    (l.leads.count ≤ length l.leads.monomials)
     × ((k : ℕ) → k < l.j → ¬ ((¬ (k ≡ l.i)) × DividesTerm l.n (row l.n (get_or l.leads.monomials k no_monomial)) l.g))
-
-abbrev pub decreases-loop-j : goal.decreases-loop-j
-decreases-loop-j l = l.leads.count - l.j

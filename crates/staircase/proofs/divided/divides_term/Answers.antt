@@ -21,7 +21,7 @@ pub returns-then-divides : goal.returns-then-divides
 returns-then-divides c = sought-found c.loop-k.k (omega arith) ((test (goal.at.returns-then-divides c).After-divides).0 c.if-divides.true)
 
 pub loop-k-preserved : goal.loop-k-preserved
-loop-k-preserved c = (omega arith, below_more _ _ c.loop-k.invariant.1 (denied (test (goal.at.loop-k-preserved c).After-divides) c.if-divides.false))
+loop-k-preserved c = below_more _ _ c.loop-k.invariant (denied (test (goal.at.loop-k-preserved c).After-divides) c.if-divides.false)
 
 pub returns : goal.returns
-returns c = sought-all c.loop-k.k (omega arith) c.loop-k.invariant.1
+returns c = sought-all c.loop-k.k (omega arith) c.loop-k.invariant

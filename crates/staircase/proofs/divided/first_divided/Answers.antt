@@ -23,7 +23,7 @@ abbrev sound : (c : At-loop-i) → Sound (lent c)
 sound c = c.requires.basis.0
 
 pub loop-i-init : goal.loop-i-init
-loop-i-init c = (omega arith, λ k h. absurd (omega arith))
+loop-i-init c = λ k h. absurd (omega arith)
 
 pub line_at-g-requires : goal.line_at-g-requires
 line_at-g-requires c = (omega (arith, (sound (goal.at.line_at-g-requires c).At-loop-i).few), c.requires.arrays)
@@ -50,17 +50,14 @@ overflow_add-result c = omega (arith, (sound (goal.at.overflow_add-result c).At-
 pub returns-then-divided_by_another : goal.returns-then-divided_by_another
 returns-then-divided_by_another c h =
     smallest-found (divided-of-basis (lent (goal.at.returns-then-divided_by_another c).At-loop-i) (sound (goal.at.returns-then-divided_by_another c).At-loop-i) (held-filled _ _ _ _ (sound (goal.at.returns-then-divided_by_another c).At-loop-i)) _ _ c.requires.basis.1 h) c.loop-i.i (omega arith)
-    (subst (Says (goal.at.returns-then-divided_by_another c).After-line_at-g) (read (goal.at.returns-then-divided_by_another c).After-line_at-g) (c.divided_by_another.ensures.0 c.if-divided_by_another.true)) c.loop-i.invariant.1
-
-pub overflow_add-i : goal.overflow_add-i
-overflow_add-i c = omega (arith, (sound (goal.at.overflow_add-i c).At-loop-i).few)
+    (subst (Says (goal.at.returns-then-divided_by_another c).After-line_at-g) (read (goal.at.returns-then-divided_by_another c).After-line_at-g) (c.divided_by_another.ensures.0 c.if-divided_by_another.true)) c.loop-i.invariant
 
 pub loop-i-preserved : goal.loop-i-preserved
 loop-i-preserved c =
     let d = c.divided_by_another.ensures in
-    (omega arith, below_more _ _ c.loop-i.invariant.1 (λ q. false≢true (sym c.if-divided_by_another.false ∙ d.1 (subst (Says (goal.at.loop-i-preserved c).After-line_at-g) (sym (read (goal.at.loop-i-preserved c).After-line_at-g)) q))))
+    below_more _ _ c.loop-i.invariant (λ q. false≢true (sym c.if-divided_by_another.false ∙ d.1 (subst (Says (goal.at.loop-i-preserved c).After-line_at-g) (sym (read (goal.at.loop-i-preserved c).After-line_at-g)) q)))
 
 pub returns : goal.returns
 returns c h =
     smallest-none (divided-of-basis (lent (goal.at.returns c).At-loop-i) (sound (goal.at.returns c).At-loop-i) (held-filled _ _ _ _ (sound (goal.at.returns c).At-loop-i)) _ _ c.requires.basis.1 h)
-    (λ k l. c.loop-i.invariant.1 k (omega arith))
+    (λ k l. c.loop-i.invariant k (omega arith))

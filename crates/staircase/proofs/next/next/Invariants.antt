@@ -6,6 +6,3 @@ use Rattle.staircase.proofs.next.next.Given as goal
 
 abbrev pub invariant-loop-i : goal.invariant-loop-i
 invariant-loop-i l = Cleared l.n l.ranking.variables (multiple l.n (lead_monomials l.n l.leads)) (row l.n l.initial.r) l.r l.i
-
-abbrev pub decreases-loop-i : goal.decreases-loop-i
-decreases-loop-i l = l.i

@@ -27,7 +27,7 @@ pub loop-k-preserved : goal.loop-k-preserved
 loop-k-preserved c = unseen-more c.loop-k.invariant c.loop-k-test.true (denied (test (goal.at.loop-k-preserved c).After-equal) c.if-equal.false)
 
 pub returns : goal.returns
-returns c = let s = c.loop-k.invariant in record { within = s.within; found = λ l. absurd (omega arith); first = s.nowhere }
+returns c = record { within = omega arith; found = λ l. absurd (omega arith); first = λ j h. c.loop-k.invariant.nowhere j (omega arith) }
 
 pub loop-k-init : goal.loop-k-init
 loop-k-init c = unseen-none

@@ -1,5 +1,4 @@
 -- `place_of` meets its contract. The loop's invariant: m stands at no place below k.
-use Prim.Native.Nat.{◌-◌}
 use mathlib.Core.Path.{◌≡◌}
 use Rattle.lists.proofs.Sought.{Unseen}
 use Rattle.monomial.specs.Represented.{row}
@@ -8,6 +7,3 @@ use Rattle.staircase.proofs.place.place_of.Given as goal
 
 abbrev pub invariant-loop-k : goal.invariant-loop-k
 invariant-loop-k l = Unseen (λ j. listed_at l.n l.irreducibles j ≡ row l.n l.m) l.irreducibles.count l.k
-
-abbrev pub decreases-loop-k : goal.decreases-loop-k
-decreases-loop-k l = l.irreducibles.count - l.k

@@ -1,5 +1,4 @@
 -- `put_ranks` meets its contract. The loop's invariant: the first k ranks are stored.
-use Prim.Native.Nat.{◌-◌}
 use lib.ListN.{get_or}
 use Rattle.monomial.specs.Represented.{row}
 use Rattle.monomial.proofs.RankPlaces.{RanksStored}
@@ -8,6 +7,3 @@ use Rattle.staircase.proofs.ranks.put_ranks.Given as goal
 
 abbrev pub invariant-loop-k : goal.invariant-loop-k
 invariant-loop-k l = RanksStored l.n (λ j. row l.n (get_or l.irreducibles.monomials j no_monomial)) l.irreducibles.count l.initial.ranks l.ranks l.k
-
-abbrev pub decreases-loop-k : goal.decreases-loop-k
-decreases-loop-k l = l.irreducibles.count - l.k

@@ -14,17 +14,17 @@ use Rattle.staircase.proofs.leads.Leads.has_power.Goals as goal
 pub loop-k-init : goal.loop-k-init
 loop-k-init c =
     let f : length c.args.self.monomials ≡ most_lines = search (length-mapped, rules) in
-    (omega arith, omega arith, λ j h. absurd (omega arith))
+    (omega arith, λ j h. absurd (omega arith))
 
 pub returns-then-is_power : goal.returns-then-is_power
 returns-then-is_power c =
-    Iff.trans (sought-found c.loop-k.k (omega arith) (sym c.is_power.ensures ∙ c.if-is_power.true)) (Iff.symm (power-in-iff _ _ _ _ c.loop-k.invariant.1))
+    Iff.trans (sought-found c.loop-k.k (omega arith) (sym c.is_power.ensures ∙ c.if-is_power.true)) (Iff.symm (power-in-iff _ _ _ _ c.loop-k.invariant.0))
 
 pub loop-k-preserved : goal.loop-k-preserved
 loop-k-preserved c =
-    (omega arith, c.loop-k.invariant.1, below_more _ _ c.loop-k.invariant.2 (false-not-true (sym c.is_power.ensures ∙ c.if-is_power.false)))
+    (c.loop-k.invariant.0, below_more _ _ c.loop-k.invariant.1 (false-not-true (sym c.is_power.ensures ∙ c.if-is_power.false)))
 
 pub returns : goal.returns
 returns c =
     let l = c.loop-k in
-    Iff.trans (sought-all l.k (omega arith) l.invariant.2) (Iff.symm (power-in-iff _ _ _ _ l.invariant.1))
+    Iff.trans (sought-all l.k (omega arith) l.invariant.1) (Iff.symm (power-in-iff _ _ _ _ l.invariant.0))

@@ -1,5 +1,5 @@
 -- `Leads::has_power` meets its contract. The loop's invariant: none of the first k is a power of v.
-use Prim.Native.Nat.{ℕ, ◌≤◌, ◌<◌, ◌-◌}
+use Prim.Native.Nat.{ℕ, ◌≤◌, ◌<◌}
 use mathlib.Core.Path.{◌≡◌}
 use mathlib.Core.Bool.{true}
 use lib.ListN.{length, get_or}
@@ -10,7 +10,4 @@ use Rattle.staircase.proofs.leads.Leads.has_power.Given as goal
 
 abbrev pub invariant-loop-k : goal.invariant-loop-k
 invariant-loop-k l =
-    (l.k ≤ l.self.count) × (l.self.count ≤ length l.self.monomials) × ((j : ℕ) → j < l.k → ¬ (is_power l.n l.v (row l.n (get_or l.self.monomials j no_monomial)) ≡ true))
-
-abbrev pub decreases-loop-k : goal.decreases-loop-k
-decreases-loop-k l = l.self.count - l.k
+    (l.self.count ≤ length l.self.monomials) × ((j : ℕ) → j < l.k → ¬ (is_power l.n l.v (row l.n (get_or l.self.monomials j no_monomial)) ≡ true))

@@ -12,10 +12,10 @@ returns-then-not-has_power c =
 
 pub loop-v-preserved : goal.loop-v-preserved
 loop-v-preserved c =
-    (omega arith, below_more _ _ c.loop-v.invariant.1 (confirmed _ c.has_power.ensures (ap not c.if-not-has_power.false)))
+    below_more _ _ c.loop-v.invariant (confirmed _ c.has_power.ensures (ap not c.if-not-has_power.false))
 
 pub loop-v-init : goal.loop-v-init
-loop-v-init c = (omega arith, λ k h. absurd (omega arith))
+loop-v-init c = λ k h. absurd (omega arith)
 
 pub returns : goal.returns
-returns c = tested-all c.loop-v.v (omega arith) c.loop-v.invariant.1
+returns c = tested-all c.loop-v.v (omega arith) c.loop-v.invariant
