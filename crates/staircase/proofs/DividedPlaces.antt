@@ -3,7 +3,7 @@
 --   monomials_of R g         the monomials of a line
 --   DividedAt R 𝓜 G d i      a monomial of the line at place i is divisible by the leading monomial of the line at another place
 --   divided-iff              check 12 by places of the lines
---   divides-at-place         the test for term k of a line
+--   divides-term-iff         the test for the terms of a line
 --   divided-by-another-iff   a monomial of an array at another place than i divides one of the line's
 --   divided-of-basis         check 12 by places of the arrays
 use mathlib.Core.Path.{◌≡◌, refl, sym, ◌∙◌, ap, subst, subst₂}
@@ -86,9 +86,12 @@ module _ {F M : Type 0} (R : Arithmetic F) where
               divides = subst (Divides 𝓜 (get_or G j d).0) e v;
             }
 
-pub divides-at-place : (n : ℕ) (d : Row n) (g : Generator) (k : ℕ) {t : Bool} → t ≡ divides n d (row n (get_or g.monomials k no_monomial))
-    → (t ≡ true) ↔ Divides (monomials n) d (row n (monomial_at g k))
-divides-at-place n d g k e = rw (e, row_at) (divides-iff n d _)
+pub divides-term-iff : (n : ℕ) (d : Row n) (g : Generator) {t : Bool}
+    → (t ≡ true) ↔ ((k : ℕ) × (k < g.terms) × (divides n d (row n (get_or g.monomials k no_monomial)) ≡ true)) → (t ≡ true) ↔ DividesTerm n d g
+divides-term-iff n d g i = (λ e. let (k, l, q) = i.0 e in (k, l, (at k).0 q), λ (k, l, q). i.1 (k, l, (at k).1 q))
+  where
+    at : (k : ℕ) → (divides n d (row n (get_or g.monomials k no_monomial)) ≡ true) ↔ Divides (monomials n) d (row n (monomial_at g k))
+    at k = rw row_at (divides-iff n d _)
 
 pub divided-by-another-iff : (n i count : ℕ) (ms : List Monomial) (g : Generator) → count ≤ length ms
     → DividedByAnother n i (rows_of n count ms) g ↔ ((j : ℕ) × (j < count) × ((¬ (j ≡ i)) × DividesTerm n (row n (get_or ms j no_monomial)) g))

@@ -1,11 +1,12 @@
 -- The laws of the crate `staircase`.
 -- Places:
 --   ArrayRows           the rows of exponents that arrays of monomials hold
---   RowsInTurn          the rows of the first monomials of an array, one after the other
+--   RowsInTurn          the rows of an array of monomials that grows
 --   LineElements        the lines of a basis of the code, by their places
 --   LineLeads           their leading monomials
 --   StoredBasis         the lines of a basis that stand in arrays
 -- The loops:
+--   FirstElements       a search among the first elements of an array
 --   Multiples           the search for a monomial of an array that divides another one
 --   PaddedRows          values of the code that hold a row of n exponents
 --   ChangedExponents    values of the code with one exponent changed
@@ -33,6 +34,7 @@ pub mod RowsInTurn
 pub mod LineElements
 pub mod LineLeads
 pub mod StoredBasis
+pub mod FirstElements
 pub mod Multiples
 pub mod PaddedRows
 pub mod ChangedExponents

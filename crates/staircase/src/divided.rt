@@ -19,12 +19,7 @@ fn divides_term(d: Monomial, g: Generator, n: usize) -> bool
     requires { (g.terms ≤ most_terms) × (n ≤ most_variables) }
     ensures { (result ≡ true) ↔ DividesTerm n (row n d) g }
 {
-    for k in 0..g.terms {
-        if d.divides(g.monomials[k], n) {
-            return true;
-        }
-    }
-    false
+    g.monomials[..g.terms].iter().any(|m| d.divides(*m, n))
 }
 
 // Whether the leading monomial of a line other than line i divides a monomial of g.

@@ -12,12 +12,9 @@ impl Leads {
         requires { (self.count ≤ most_lines) × (n ≤ most_variables) }
         ensures { (result ≡ true) ↔ PowerIn n v (lead_monomials n self) }
     {
-        for k in 0..self.count {
-            if self.monomials[k].is_power(v, n) {
-                return true;
-            }
-        }
-        false
+        self.monomials[..self.count]
+            .iter()
+            .any(|d| d.is_power(v, n))
     }
 
     pub fn zero_dimensional(self, n: usize) -> bool

@@ -1,27 +1,24 @@
--- `divides_term` meets its contract. The loop's invariant: d divides none of the first k monomials.
+-- `divides_term` meets its contract.
 use mathlib.Core.Path.{◌≡◌}
-use mathlib.Core.Bool.{true}
-use mathlib.Core.Logic.{◌↔◌}
 use native.Mathlib.Omega.{arith}
-use borrow.Author.Count.{below_more}
-use Rattle.lists.proofs.Testing.{sought-found, sought-all, denied}
-use Rattle.monomial.specs.Ordering.{Divides, monomials}
+use lib.ListN.{length}
+use Rattle.std.proofs.Common.{rules, tests}
+use Rattle.std.proofs.lemmas.Iterator.{YieldsList-from_slice}
+use Rattle.std.proofs.lemmas.Iterator.Search.{any_from_yields_List}
+use Rattle.lists.proofs.Elements.{length-mapped}
+use Rattle.monomial.specs.Quotients.{divides}
 use Rattle.monomial.specs.Represented.{row}
-use Rattle.staircase.specs.Sound.{monomial_at}
-use Rattle.staircase.proofs.DividedPlaces.{divides-at-place}
-use Rattle.staircase.proofs.divided.divides_term.Goals.{After-divides}
+use Rattle.lines.specs.Sizes.{most_terms}
+use Rattle.staircase.proofs.ArrayRows.{no_monomial}
+use Rattle.staircase.proofs.FirstElements.{passes-iff}
+use Rattle.staircase.proofs.DividedPlaces.{divides-term-iff}
 use Rattle.staircase.proofs.divided.divides_term.Goals as goal
 
--- What the test says of the monomial of a turn.
-test : (c : After-divides) → let a = c.args in
-    (c.divides.result ≡ true) ↔ Divides (monomials a.n) (row a.n a.d) (row a.n (monomial_at a.g c.loop-k.k))
-test c = divides-at-place _ _ _ _ c.divides.ensures
-
-pub returns-then-divides : goal.returns-then-divides
-returns-then-divides c = sought-found c.loop-k.k (omega arith) ((test (goal.at.returns-then-divides c).After-divides).0 c.if-divides.true)
-
-pub loop-k-preserved : goal.loop-k-preserved
-loop-k-preserved c = below_more _ _ c.loop-k.invariant (denied (test (goal.at.loop-k-preserved c).After-divides) c.if-divides.false)
-
 pub returns : goal.returns
-returns c = sought-all c.loop-k.k (omega arith) c.loop-k.invariant
+returns c =
+    let a = c.args in
+    let ms = a.g.monomials in
+    let full : length ms ≡ most_terms = search (length-mapped, rules) in
+    divides-term-iff a.n (row a.n a.d) a.g
+    (passes-iff (λ m. divides a.n (row a.n a.d) (row a.n m)) ms a.g.terms no_monomial (omega arith)
+    (any_from_yields_List _ _ _ c.any.result c.any.ensures.ran (YieldsList-from_slice _ c.iter.ensures.rest) (λ x b q k. search (rules, tests))))
