@@ -1,15 +1,18 @@
--- A search among the first elements of an array.
---   passes-iff   whether one of them passes a test, by places
-use mathlib.Core.Path.{◌≡◌, sym, ◌∙◌, ap}
-use mathlib.Core.Bool.{Bool, true}
+-- Searches among the first elements of an array, and tests of all numbers below n.
+--   passes-iff   an element of the first ones passes a test, by places
+--   each-iff     all numbers below n have P
+use mathlib.Core.Path.{◌≡◌, refl, sym, ◌∙◌, ap, subst}
+use mathlib.Core.Bool.{Bool, true, false, false≢true}
 use mathlib.Core.List.{List}
 use mathlib.Core.Logic.{◌↔◌}
 use Prim.Native.Nat.{ℕ, ◌≤◌, ◌<◌}
 use native.Mathlib.Omega.{arith}
 use lib.ListN.{length, get_or, take}
 use lib.Seq.{length-take-le, get_or-take}
-use Rattle.std.specs.List.{list_any}
+use Rattle.std.specs.List.{list_any, range_with_len, AllWithin, HoldsAt}
+use Rattle.std.specs.Bool.{MatchBool}
 use Rattle.std.proofs.lemmas.List.{get_or_default}
+use Rattle.std.proofs.lemmas.List.FromFn.{get_or-range_with_len, length-range_with_len}
 use Rattle.std.proofs.lemmas.List.Folds.{Any-from_list_any, list_any_at}
 
 pub passes-iff : {A : Type 0} (p : A → Bool) (xs : List A) (count : ℕ) (d : A) {t : Bool} → count ≤ length xs → t ≡ list_any p (take count xs)
@@ -21,3 +24,16 @@ passes-iff p xs count d h e = (
       (j, l', ap p (get_or_default xs j d x (omega (arith, l', h)) ∙ sym (get_or-take count xs j x l') ∙ s) ∙ o),
   λ (j, l, o). e ∙ list_any_at p (take count xs) j d (omega (arith, l, length-take-le count xs h)) (ap p (get_or-take count xs j d l) ∙ o),
 )
+
+module _ (P : ℕ → Type 0) (n : ℕ) where
+  number : (k : ℕ) → k < n → get_or (range_with_len 0 n) k 0 ≡ k
+  number k l = omega (arith, get_or-range_with_len 0 n k 0 l)
+
+  pub each-iff : (t : Bool)
+      → MatchBool t (AllWithin (λ v. (true ≡ true) ↔ P v) (range_with_len 0 n) 0 (length (range_with_len 0 n)))
+      ((k : ℕ) × (k < length (range_with_len 0 n)) × HoldsAt (λ v. (false ≡ true) ↔ P v) (range_with_len 0 n) k)
+      → (t ≡ true) ↔ ((v : ℕ) → v < n → P v)
+  each-iff true a = (λ _ v l. (subst (λ u. (true ≡ true) ↔ P u) (number v l) (a v 0 (omega arith) (omega (arith, l, length-range_with_len 0 n)))).0 refl, λ _. refl)
+  each-iff false (k, l, f) =
+      let l' : k < n = omega (arith, l, length-range_with_len 0 n) in
+      (λ z. absurd (false≢true z), λ a. (subst (λ u. (false ≡ true) ↔ P u) (number k l') (f 0)).1 (a k l'))

@@ -6,7 +6,7 @@
 --   LineLeads           their leading monomials
 --   StoredBasis         the lines of a basis that stand in arrays
 -- The loops:
---   FirstElements       a search among the first elements of an array
+--   FirstElements       a search among the first elements of an array, and a test of all numbers below n
 --   Multiples           the search for a monomial of an array that divides another one
 --   PaddedRows          values of the code that hold a row of n exponents
 --   ChangedExponents    values of the code with one exponent changed

@@ -21,11 +21,6 @@ impl Leads {
         requires { (self.count ≤ most_lines) × (n ≤ most_variables) }
         ensures { (result ≡ true) ↔ Powers n (lead_monomials n self) }
     {
-        for v in 0..n {
-            if !self.has_power(v, n) {
-                return false;
-            }
-        }
-        true
+        (0..n).all(|v| self.has_power(v, n))
     }
 }

@@ -1,21 +1,19 @@
--- `Leads::zero_dimensional` meets its contract. The loop's invariant: there is a power of each variable below v.
-use mathlib.Core.Path.{ap}
-use mathlib.Core.Bool.{not}
+-- `Leads::zero_dimensional` meets its contract.
+use Prim.Native.Nat.{ℕ}
+use mathlib.Core.Path.{◌≡◌, refl}
+use mathlib.Core.Bool.{true, false}
+use mathlib.Core.Logic.{◌↔◌}
 use native.Mathlib.Omega.{arith}
-use borrow.Author.Count.{below_more}
-use Rattle.lists.proofs.Testing.{tested-failed, tested-all, refuted, confirmed}
+use Rattle.std.proofs.Common.{rules, tests}
+use Rattle.std.proofs.lemmas.Iterator.{YieldsList-from_range, cases_from_all}
+use Rattle.staircase.specs.Leads.{lead_monomials, PowerIn}
+use Rattle.staircase.proofs.FirstElements.{each-iff}
 use Rattle.staircase.proofs.leads.Leads.zero_dimensional.Goals as goal
 
-pub returns-then-not-has_power : goal.returns-then-not-has_power
-returns-then-not-has_power c =
-    tested-failed c.loop-v.v (omega arith) (refuted _ c.has_power.ensures (ap not c.if-not-has_power.true))
-
-pub loop-v-preserved : goal.loop-v-preserved
-loop-v-preserved c =
-    below_more _ _ c.loop-v.invariant (confirmed _ c.has_power.ensures (ap not c.if-not-has_power.false))
-
-pub loop-v-init : goal.loop-v-init
-loop-v-init c = λ k h. absurd (omega arith)
-
 pub returns : goal.returns
-returns c = tested-all c.loop-v.v (omega arith) c.loop-v.invariant
+returns c =
+    let a = c.args in
+    let power : ℕ → Type 0 = λ v. PowerIn a.n v (lead_monomials a.n a.self) in
+    each-iff power a.n c.all.result
+    (cases_from_all _ _ c.all.result (λ v. (true ≡ true) ↔ power v) (λ v. (false ≡ true) ↔ power v) c.all.ensures.ran
+    (YieldsList-from_range 0 a.n a.n refl (omega arith)) (λ x q k. search (rules, tests)) (λ x q k. search (rules, tests)))
