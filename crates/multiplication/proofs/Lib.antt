@@ -6,7 +6,7 @@
 --   RowFilling     the rows of the products x_i·B_s, filled in rising order
 --   RankQuotients  the ranks of products with a variable and of quotients by one
 --   TailTerms      the tail of a line of the code, term by term
---   Passing        the test of `is_detour`, and the loop of `variable_through`
+--   Passing        the test of `is_detour`
 --   RowRules       the three rules for the row of x_i·B_s, by the answers of the code
 --   NextProducts   the next products that the code holds
 --   Merging        the merge of the next products

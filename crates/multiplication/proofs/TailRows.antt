@@ -4,9 +4,7 @@
 --   Gathered             the terms from k on are subtracted
 --   gathered_none        at first none
 --   gathered-small       the coefficient of the next term is below p
---   gathered-place       its place is in the array
 --   gathered-more        one term more
---   gathered-all         all of them
 use mathlib.Core.Path.{◌≡◌, refl, sym, ◌∙◌, ap, subst}
 use mathlib.Core.List.{List, ◌∷◌}
 use mathlib.Core.Logic.{by_cases}
@@ -28,7 +26,7 @@ use Rattle.monomial.specs.Represented.{row}
 use Rattle.groebner.specs.Polynomials.{coef}
 use Rattle.groebner.proofs.Modules.{self, opposite-null, opposite-plus}
 use Rattle.groebner.proofs.Terms.{coef-nil, coef-here, coef-there}
-use Rattle.lines.specs.Sizes.{most_standard, most_terms}
+use Rattle.lines.specs.Sizes.{most_standard}
 use Rattle.lines.specs.declared.line.Generator.{Generator}
 use Rattle.staircase.specs.Sound.{SoundLine, coefficient_at}
 use Rattle.staircase.specs.Listed.{listed, listed_at, Place, Distinct}
@@ -36,7 +34,7 @@ use Rattle.staircase.specs.declared.irreducible.Irreducibles.{Irreducibles}
 use Rattle.staircase.proofs.ArrayRows.{no_monomial}
 use Rattle.coordinates.specs.Vectors.{coordinate, Below, coordinates_of}
 use Rattle.coordinates.specs.declared.Coordinates.{Coordinates}
-use Rattle.multiplication.specs.Tails.{Subtracted, TailRow}
+use Rattle.multiplication.specs.Tails.{Subtracted}
 use Rattle.multiplication.proofs.TailTerms.{tail_of, term_at, tail-length, tail_from}
 
 -- a - c, as residues.
@@ -98,9 +96,6 @@ module _ {p n : ℕ} {g : Generator} {l : Irreducibles} {r : Coordinates} {k : �
   unfolding coefficient_at
   gathered-small = (so_far.sound.coefficients (k - 1) (omega (arith, so_far.within))).1
 
-  pub gathered-place : k - 1 < most_terms
-  gathered-place = omega (arith, so_far.within, so_far.sound.few)
-
   pub gathered-more : {at : ℕ} {a : Coordinates} → Distinct n l → Place n (listed n l) l.count (row n (get_or g.monomials (k - 1) no_monomial)) at
       → Subtracted p l.count r (get_or g.coefficients (k - 1) (record { 0 = 0 })).0 at a → Gathered p n g l a (k - 1)
   unfolding coordinates_of
@@ -145,11 +140,3 @@ module _ {p n : ℕ} {g : Generator} {l : Irreducibles} {r : Coordinates} {k : �
         where
           differs : ¬ (listed_at n l j ≡ row n (get_or g.monomials (k - 1) no_monomial))
           differs e = by_cases (dec_lt at l.count) (λ u. q (once j at m u (e ∙ sym (place.found u)))) (λ u. place.first j (omega (arith, place.within)) e)
-
-pub gathered-all : {p n : ℕ} {g : Generator} {l : Irreducibles} {r : Coordinates} {k : ℕ} → Gathered p n g l r k → k ≤ 1 → TailRow p n g l r
-gathered-all {p} {n} {g} {l} {r} {k} all e =
-    let z : k - 1 ≡ 0 = omega (arith, all.some) in
-    record {
-      below = all.below;
-      coefficients = λ h j m. subst (λ i. coordinates_of p h r j ≡ (modulo p h).neg (coef (modulo p h) (monomials n) (drop i (tail_of p h n g)) (listed_at n l j))) z (all.coefficients h j m);
-    }

@@ -26,12 +26,10 @@ fn commute_pair(cells: &[u16], i: usize, j: usize, count: usize, p: u16) -> bool
     requires { Modulus p × Cells p cells.now × (i < most_variables) × (j < most_variables) × (count ≤ most_standard) }
     ensures { (h : 1 < p) → (result ≡ true) ↔ ((s : ℕ) → s < count → CommuteAt p h (tables_of cells.now) count i j s) }
 {
-    let mut s: usize = 0;
-    while s < count {
+    for s in 0..count {
         if !commute_at(cells, i, j, s, count, p) {
             return false;
         }
-        s += 1;
     }
     true
 }
@@ -41,12 +39,10 @@ fn commute_before(cells: &[u16], j: usize, count: usize, p: u16) -> bool
     requires { Modulus p × Cells p cells.now × (j < most_variables) × (count ≤ most_standard) }
     ensures { (h : 1 < p) → (result ≡ true) ↔ ((i : ℕ) → i < j → (s : ℕ) → s < count → CommuteAt p h (tables_of cells.now) count i j s) }
 {
-    let mut i: usize = 0;
-    while i < j {
+    for i in 0..j {
         if !commute_pair(cells, i, j, count, p) {
             return false;
         }
-        i += 1;
     }
     true
 }
@@ -56,12 +52,10 @@ pub fn commute(cells: &[u16], n: usize, count: usize, p: u16) -> bool
     requires { Modulus p × Cells p cells.now × (n ≤ most_variables) × (count ≤ most_standard) }
     ensures { (h : 1 < p) → (result ≡ true) ↔ RowsCommute (modulo p h) n count (cell_of p h (tables_of cells.now)) }
 {
-    let mut j: usize = 0;
-    while j < n {
+    for j in 0..n {
         if !commute_before(cells, j, count, p) {
             return false;
         }
-        j += 1;
     }
     true
 }

@@ -56,9 +56,7 @@ fn tail_row(
     ensures { TailRow p n g irreducibles result }
 {
     let mut r = Coordinates::zero();
-    let mut k = g.terms;
-    while 1 < k {
-        k -= 1;
+    for k in (1..g.terms).rev() {
         let m = g.monomials[k];
         let c = g.coefficients[k];
         let at = rank_place(ranks, irreducibles.count, rank(m, n));
@@ -72,10 +70,7 @@ fn is_detour(ranks: &[u64], count: usize, e: Exponent, wanted: u64, x: u64) -> b
     requires { (count ≤ length ranks.now) × (0 < e.0 → x ≤ wanted) × RisingRanks ranks.now count }
     ensures { (result ≡ true) ↔ PassesBy ranks.now count e.0 wanted x }
 {
-    if e.0 == 0 {
-        return false;
-    }
-    place_after(ranks, count, 0, wanted - x) == count
+    e.0 != 0 && place_after(ranks, count, 0, wanted - x) == count
 }
 
 // The first x_j that divides m with w less its rank no rank of the list, of which there is one.
@@ -91,15 +86,13 @@ fn variable_through(
         × SomePasses n (row n m) ranks.now variables.now count wanted }
     ensures { (result < n) × PassesBy ranks.now count (exponent n (row n m) result) wanted (get_or variables.now result 0) }
 {
-    let mut j: usize = 0;
-    while j < n {
+    for j in 0..n {
         let e = m.e[j];
         if is_detour(ranks, count, e, wanted, variables[j]) {
             return j;
         }
-        j += 1;
     }
-    j
+    unreachable!()
 }
 
 // The row of typeof.x_i.B_s of rank w, which is neither listed nor a leading monomial: with B_s = x_j·c and x_i·c reducible it is x_j times the row of x_i·c.
@@ -177,11 +170,9 @@ fn put_first_ranks(next: &mut [u64], ranks: &[u64], variables: &[u64], count: us
     requires { (length next.old ≡ most_variables) × (n ≤ most_variables) × (n ≤ length variables.now) × Bounded variables.now n × (count ≤ length ranks.now) × Bounded ranks.now count }
     ensures { FirstRanks ranks.now variables.now count n next.new }
 {
-    let mut i: usize = 0;
-    while i < n {
+    for i in 0..n {
         let x = variables[i];
         next[i] = product_rank(ranks, count, x, 0);
-        i += 1;
     }
 }
 

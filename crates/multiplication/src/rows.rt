@@ -38,13 +38,11 @@ pub fn times_variable(
 {
     let over = word_over(p);
     let mut sum = Coordinates::zero();
-    let mut r: usize = 0;
-    while r < count {
+    for r in 0..count {
         let c = vector.c[r];
         if c.0 != 0 {
             sum = add_multiple(sum, c.0, cells, row_start(i, r), over, p);
         }
-        r += 1;
     }
     cut(sum, count)
 }

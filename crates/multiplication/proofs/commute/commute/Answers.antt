@@ -3,18 +3,9 @@ use mathlib.Core.Path.{ap}
 use mathlib.Core.Bool.{not}
 use borrow.Author.Count.{below_more}
 use mathlib.Core.Logic.Iff
-use native.Mathlib.Omega.{arith}
 use Rattle.lists.proofs.Testing.{tested-failed, tested-all, refuted, confirmed}
 use Rattle.multiplication.proofs.CommutingRows.{all-commute}
 use Rattle.multiplication.proofs.commute.commute.Goals as goal
-
-pub loop-j-init : goal.loop-j-init
-loop-j-init c = (omega arith, λ h k l. absurd (omega arith))
-
-pub commute_before-requires : goal.commute_before-requires
-commute_before-requires c =
-    let (modulus, cells, n, d) = c.requires in
-    (modulus, cells, omega arith, d)
 
 pub returns-then-not-commute_before : goal.returns-then-not-commute_before
 returns-then-not-commute_before c = λ h.
@@ -22,7 +13,7 @@ returns-then-not-commute_before c = λ h.
 
 pub loop-j-preserved : goal.loop-j-preserved
 loop-j-preserved c =
-    (omega arith, λ h. below_more _ _ (c.loop-j.invariant.1 h) (confirmed _ (c.commute_before.ensures h) (ap not c.if-not-commute_before.false)))
+    λ h. below_more _ _ (c.loop-j.invariant h) (confirmed _ (c.commute_before.ensures h) (ap not c.if-not-commute_before.false))
 
 pub returns : goal.returns
-returns c = λ h. Iff.trans (tested-all c.loop-j.j c.loop-j-test.false (c.loop-j.invariant.1 h)) (all-commute _ h _ _ _)
+returns c = λ h. Iff.trans (tested-all c.loop-j.j c.loop-j-test.false (c.loop-j.invariant h)) (all-commute _ h _ _ _)

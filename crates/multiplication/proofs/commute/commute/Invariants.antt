@@ -1,10 +1,7 @@
 -- `commute` meets its contract. The loop's invariant: no test below j failed.
-use Prim.Native.Nat.{ℕ, ◌-◌, ◌≤◌, ◌<◌}
+use Prim.Native.Nat.{ℕ, ◌<◌}
 use Rattle.multiplication.specs.Rows.{tables_of, CommuteAt}
 use Rattle.multiplication.proofs.commute.commute.Given as goal
 
 abbrev pub invariant-loop-j : goal.invariant-loop-j
-invariant-loop-j l = (l.j ≤ l.n) × ((h : 1 < l.p) (k : ℕ) → k < l.j → (i : ℕ) → i < k → (s : ℕ) → s < l.count → CommuteAt l.p h (tables_of l.cells) l.count i k s)
-
-abbrev pub decreases-loop-j : goal.decreases-loop-j
-decreases-loop-j l = l.n - l.j
+invariant-loop-j l = (h : 1 < l.p) (k : ℕ) → k < l.j → (i : ℕ) → i < k → (s : ℕ) → s < l.count → CommuteAt l.p h (tables_of l.cells) l.count i k s

@@ -1,10 +1,7 @@
 -- `commute_before` meets its contract. The loop's invariant: no test below i failed.
-use Prim.Native.Nat.{ℕ, ◌-◌, ◌≤◌, ◌<◌}
+use Prim.Native.Nat.{ℕ, ◌<◌}
 use Rattle.multiplication.specs.Rows.{tables_of, CommuteAt}
 use Rattle.multiplication.proofs.commute.commute_before.Given as goal
 
 abbrev pub invariant-loop-i : goal.invariant-loop-i
-invariant-loop-i l = (l.i ≤ l.j) × ((h : 1 < l.p) (k : ℕ) → k < l.i → (s : ℕ) → s < l.count → CommuteAt l.p h (tables_of l.cells) l.count k l.j s)
-
-abbrev pub decreases-loop-i : goal.decreases-loop-i
-decreases-loop-i l = l.j - l.i
+invariant-loop-i l = (h : 1 < l.p) (k : ℕ) → k < l.i → (s : ℕ) → s < l.count → CommuteAt l.p h (tables_of l.cells) l.count k l.j s

@@ -1,10 +1,7 @@
 -- `commute_pair` meets its contract. The loop's invariant: no test below s failed.
-use Prim.Native.Nat.{ℕ, ◌-◌, ◌≤◌, ◌<◌}
+use Prim.Native.Nat.{ℕ, ◌<◌}
 use Rattle.multiplication.specs.Rows.{tables_of, CommuteAt}
 use Rattle.multiplication.proofs.commute.commute_pair.Given as goal
 
 abbrev pub invariant-loop-s : goal.invariant-loop-s
-invariant-loop-s l = (l.s ≤ l.count) × ((h : 1 < l.p) (k : ℕ) → k < l.s → CommuteAt l.p h (tables_of l.cells) l.count l.i l.j k)
-
-abbrev pub decreases-loop-s : goal.decreases-loop-s
-decreases-loop-s l = l.count - l.s
+invariant-loop-s l = (h : 1 < l.p) (k : ℕ) → k < l.s → CommuteAt l.p h (tables_of l.cells) l.count l.i l.j k

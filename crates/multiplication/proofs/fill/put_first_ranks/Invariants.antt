@@ -1,12 +1,8 @@
 -- `put_first_ranks` meets its contract. The loop's invariant: the first i ranks are stored.
-use Prim.Native.Nat.{◌-◌, ◌≤◌}
 use lib.ListN.{get_or}
 use Rattle.lists.proofs.Storing.{FilledTo}
 use Rattle.multiplication.specs.RankedLists.{ProductRank}
 use Rattle.multiplication.proofs.fill.put_first_ranks.Given as goal
 
 abbrev pub invariant-loop-i : goal.invariant-loop-i
-invariant-loop-i l = (l.i ≤ l.n) × FilledTo (λ j r. ProductRank l.ranks l.count (get_or l.variables j 0) 0 r) 0 l.initial.next l.next l.i
-
-abbrev pub decreases-loop-i : goal.decreases-loop-i
-decreases-loop-i l = l.n - l.i
+invariant-loop-i l = FilledTo (λ j r. ProductRank l.ranks l.count (get_or l.variables j 0) 0 r) 0 l.initial.next l.next l.i

@@ -6,7 +6,7 @@ use borrow.Author.Rules.{rules}
 use Rattle.lists.proofs.Elements.{length-mapped}
 use Rattle.lines.specs.Sizes.{most_terms}
 use Rattle.staircase.proofs.RankedLists.{rank-place}
-use Rattle.multiplication.proofs.TailRows.{gathered_none, gathered-small, gathered-place, gathered-more, gathered-all}
+use Rattle.multiplication.proofs.TailRows.{gathered_none, gathered-small, gathered-more}
 use Rattle.multiplication.proofs.fill.tail_row.Goals as goal
 
 pub loop-k-init : goal.loop-k-init
@@ -14,24 +14,6 @@ loop-k-init c =
     let size : length c.args.g.monomials ≡ most_terms = search (length-mapped, rules) in
     let (_, line, _, _, _, _) = c.requires in
     gathered_none (omega (arith, (line.coefficients 0 line.some).1)) line (omega (arith, line.few)) c.zero-r.ensures
-
-pub offset_bounds-g-k : goal.offset_bounds-g-k
-offset_bounds-g-k c = omega (arith, gathered-place c.loop-k.invariant c.loop-k-test.true)
-
-pub bounds-g-k : goal.bounds-g-k
-bounds-g-k c = gathered-place c.loop-k.invariant c.loop-k-test.true
-
-pub offset_bounds-g-k-in-loop-k : goal.offset_bounds-g-k-in-loop-k
-offset_bounds-g-k-in-loop-k c = omega (arith, gathered-place c.loop-k.invariant c.loop-k-test.true)
-
-pub bounds-g-k-in-loop-k : goal.bounds-g-k-in-loop-k
-bounds-g-k-in-loop-k c = gathered-place c.loop-k.invariant c.loop-k-test.true
-
-pub rank-requires : goal.rank-requires
-rank-requires c = let (_, _, _, n, _, _) = c.requires in n
-
-pub rank_place-at-requires : goal.rank_place-at-requires
-rank_place-at-requires c = let (ranks, _, _, _, _, _) = c.requires in ranks.many
 
 pub subtract_at-r-requires : goal.subtract_at-r-requires
 subtract_at-r-requires c =
@@ -43,6 +25,3 @@ pub loop-k-preserved : goal.loop-k-preserved
 loop-k-preserved c =
     let (ranks, _, once, _, _, _) = c.requires in
     gathered-more c.loop-k.invariant c.loop-k-test.true once (rank-place _ ranks c.rank.ensures c.rank_place-at.ensures) c.subtract_at-r.ensures
-
-pub returns : goal.returns
-returns c = gathered-all c.loop-k.invariant c.loop-k-test.false

@@ -4,6 +4,3 @@ use Rattle.multiplication.proofs.fill.tail_row.Given as goal
 
 abbrev pub invariant-loop-k : goal.invariant-loop-k
 invariant-loop-k l = Gathered l.p l.n l.g l.irreducibles l.r l.k
-
-abbrev pub decreases-loop-k : goal.decreases-loop-k
-decreases-loop-k l = l.k

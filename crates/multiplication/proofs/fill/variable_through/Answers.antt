@@ -1,15 +1,13 @@
 -- `variable_through` meets its contract. The loop's invariant: none of the variables before x_j passes.
 use mathlib.Core.Path.{◌≡◌, sym}
+use borrow.Author.Count.{below_more}
 use lib.ListN.{get_or}
 use Rattle.monomial.specs.Rows.{exponent}
 use Rattle.monomial.specs.Represented.{row}
 use Rattle.monomial.proofs.Places.{exponent-row}
-use Rattle.multiplication.proofs.Passing.{blocked-none, blocked-more, blocked-all}
+use Rattle.lists.proofs.Testing.{denied}
 use Rattle.multiplication.proofs.fill.variable_through.Goals.{In-loop-j}
 use Rattle.multiplication.proofs.fill.variable_through.Goals as goal
-
-pub loop-j-init : goal.loop-j-init
-loop-j-init c = blocked-none
 
 -- The exponent that is read.
 is : (c : In-loop-j) → let a = c.args in (get_or a.m.e c.loop-j.j (record { 0 = 0 })).0 ≡ exponent a.n (row a.n a.m) c.loop-j.j
@@ -27,7 +25,4 @@ returns-then-is_detour c =
 
 pub loop-j-preserved : goal.loop-j-preserved
 loop-j-preserved c =
-    blocked-more c.loop-j.invariant c.loop-j-test.true (rw (is (goal.at.loop-j-preserved c).In-loop-j) at c.is_detour.ensures) c.if-is_detour.false
-
-pub returns : goal.returns
-returns c = absurd (blocked-all c.loop-j.invariant c.loop-j-test.false c.requires.4.some)
+    below_more _ _ c.loop-j.invariant (denied (rw (is (goal.at.loop-j-preserved c).In-loop-j) at c.is_detour.ensures) c.if-is_detour.false)
