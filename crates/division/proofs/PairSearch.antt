@@ -8,10 +8,10 @@ use mathlib.Core.Bool.{Bool, true, false, false≢true}
 use mathlib.Core.List.{List}
 use Prim.Native.Nat.{ℕ, ◌+◌, ◌≤◌, ◌<◌}
 use native.Mathlib.Omega.{arith}
+use Rattle.std.specs.Prelude.{Some, None}
 use borrow.Author.Count.{below_more}
 use lib.ListN.{length, get_or}
 use Rattle.lines.specs.Bases.{StoredBasis}
-use Rattle.staircase.proofs.SmallestLine.{smallest-found, smallest-none}
 use Rattle.division.specs.GrevlexPlace.{place, space}
 use Rattle.division.specs.CoefficientArray.{Work}
 use Rattle.division.specs.PairRemainders.{Pairable, PairableOn, PairFails, PairSays, EarlierSays, FirstFailing}
@@ -85,8 +85,10 @@ module _ {b : StoredBasis} {w₀ w : List ℕ} {j : ℕ} (s : LinesPassed b w₀
       passed = below_more _ _ s.passed (λ h f. false≢true (sym q ∙ (a.verdict h).1 f));
     }
 
-    pub lines-found : r ≡ true → FirstFailing b (j + 2)
-    lines-found q h = smallest-found (failing-places b h s.filled) j l ((a.verdict h).0 q) (λ k m. s.passed k m h)
+    pub lines-found : r ≡ true → FirstFailing b (Some (j + 2))
+    lines-found q h =
+        let places = failing-places b h s.filled in
+        ((places (j + 2)).1 (j, refl, l, (a.verdict h).0 q), λ k m f. let (i, e, g, fails) = (places k).0 f in s.passed i (omega arith) h fails)
 
-  pub lines-stop : b.lines ≤ j → FirstFailing b 0
-  lines-stop l h = smallest-none (failing-places b h s.filled) (λ k m. s.passed k (omega arith) h)
+  pub lines-stop : b.lines ≤ j → FirstFailing b None
+  lines-stop l h k f = let (i, e, g, fails) = (failing-places b h s.filled k).0 f in s.passed i (omega arith) h fails

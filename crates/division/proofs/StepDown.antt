@@ -10,8 +10,9 @@ use Rattle.monomial.specs.Rows.{exponent}
 use Rattle.monomial.specs.Represented.{row}
 use Rattle.monomial.specs.FirstVariable.{FirstVariable}
 use Rattle.monomial.specs.declared.Monomial.{Monomial}
-use Rattle.division.specs.GrevlexPlace.{place, ExponentPut}
+use Rattle.division.specs.GrevlexPlace.{place}
 use Rattle.division.proofs.GrevlexPlaces.{place-one, place_down}
+use Rattle.division.proofs.StoredExponent.{ExponentPut}
 
 module _ (n : ℕ) (m : Monomial) {i : ℕ} (f : FirstVariable n (row n m) i) where
   pub step-found : 0 < place n (row n m) → i < n

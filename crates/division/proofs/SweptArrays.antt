@@ -49,7 +49,7 @@ use Rattle.division.proofs.BasisSystem.{ring_of, lines-low, system_of, earliest-
 
 pub clears-length : {b : StoredBasis} {m : Row b.n} {w w' : List ℕ} {r : Bool} → Clears b m w w' r → length w' ≡ length w
 clears-length (idle e q) = ap length q
-clears-length (subtracted j l f a) = a.length
+clears-length (subtracted j f a) = a.length
 clears-length (stuck e f q) = ap length q
 
 -- Where the array is zero, so is the coefficient.
@@ -72,34 +72,34 @@ module _ (b : StoredBasis) (sound : Sound b) (filled : WithinArrays b) where
   module _ (w w' : List ℕ) (m : Row b.n) (k : Work b.p b.n w) (z : ZeroAbove b.n (suc (place b.n m)) w) where
     clears-work : {r : Bool} → Clears b m w w' r → Work b.p b.n w'
     clears-work (idle e q) = rw q k
-    clears-work (subtracted j l f a) = adds-work b.p b.n k a
+    clears-work (subtracted j f a) = adds-work b.p b.n k a
     clears-work (stuck e f q) = rw q k
 
     clears-kept : {r : Bool} → Clears b m w w' r → KeepsNormalForm w w'
     unfolding multiple_of
     clears-kept (idle e q) h s o = (s, rw q o, λ x. refl)
     clears-kept (stuck e f q) h s o = (s, rw q o, λ x. refl)
-    clears-kept (subtracted j l f a) h s o = (
+    clears-kept (subtracted j f a) h s o = (
       s ++ line_multiple b j _ m h,
       adds-holds b.p b.n a h s o,
       NF-added (ring_of b sound h) (grevlex-order b.n) (stored_lines b h) (lines-low b sound h filled) s _ m (line_at b h j) (quotient b.n m (lead_at b j))
-          (earliest-line b sound h filled m j l f) (raised b sound j l m (f.here l) h),
+          (earliest-line b sound h filled m j f) (raised b sound j f.within m f.here h),
     )
 
     -- The coefficient of m itself.
     at-m : Clears b m w w' true → get_or w' (place b.n m) 0 ≡ 0
     unfolding negation_mod
     at-m (idle e q) = rw q e
-    at-m (subtracted j i f s) = let h = k.modulus.prime.above_one in
-        s.sums h m ∙ ap (λ x. sum_mod b.p (get_or w (place b.n m) 0) x.0) (multiple-top b sound filled j i m (f.here i) h _)
+    at-m (subtracted j f s) = let h = k.modulus.prime.above_one in
+        s.sums h m ∙ ap (λ x. sum_mod b.p (get_or w (place b.n m) 0) x.0) (multiple-top b sound filled j f.within m f.here h _)
         ∙ ap (sum_mod b.p (get_or w (place b.n m) 0)) (residue-below b.p h _ (mod-lt _ (omega arith))) ∙ negation-sum b.p _ (k.residues m)
 
     -- Those above it.
     above-m : Clears b m w w' true → (a : Row b.n) → place b.n m < place b.n a → get_or w' (place b.n a) 0 ≡ 0
     unfolding modulo
     above-m (idle e q) a l = rw q (z a l)
-    above-m (subtracted j i f s) a l = let h = k.modulus.prime.above_one in
-        s.sums h a ∙ ap₂ (λ x y. sum_mod b.p x y.0) (z a l) (multiple-above b sound filled j i m (f.here i) h _ a (place-grevlex b.n m a l))
+    above-m (subtracted j f s) a l = let h = k.modulus.prime.above_one in
+        s.sums h a ∙ ap₂ (λ x y. sum_mod b.p x y.0) (z a l) (multiple-above b sound filled j f.within m f.here h _ a (place-grevlex b.n m a l))
         ∙ sum-zero b.p 0 (omega arith)
 
     clears-zero : Clears b m w w' true → ZeroAbove b.n (place b.n m) w'

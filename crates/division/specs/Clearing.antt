@@ -4,13 +4,12 @@
 --   product_of p n g c u h           c·u·g, for a line g
 --   multiple_of p n g c m h          the same, for m = u·lead g
 --   line_multiple b k c m h          the same for line k
---   FirstDivisor n count leads m k   leads k is the earliest of the first count that divides m; k is count if none does
 --   Dividend b w m                   b can divide what w holds: there is nothing at m and above it
 --   Sweeps b w w' zero               the answer of the division of what w holds: whether the remainder is zero
-use Rattle.std.specs.Prelude.{ℕ, ◌≤◌, ◌<◌, ◌≡◌, Bool, true, false, List, [], ◌↔◌}
+use Rattle.std.specs.Prelude.{ℕ, ◌≤◌, ◌<◌, ◌≡◌, Bool, true, List, [], ◌↔◌}
 use Rattle.residue.specs.Field.{ZMod, modulo, residue}
 use Rattle.monomial.specs.Rows.{Row, degree}
-use Rattle.monomial.specs.Quotients.{divides, quotient}
+use Rattle.monomial.specs.Quotients.{quotient}
 use Rattle.monomial.specs.Ordering.{monomials, Grevlex}
 use Rattle.monomial.specs.Represented.{row}
 use Rattle.groebner.specs.Polynomials.{Poly, Polynomial, scale, shift}
@@ -45,12 +44,6 @@ multiple_of p n g c m = product_of p n g c (quotient n m (row n (monomial_at g 0
 -- The same for line k.
 abbrev pub line_multiple : (b : StoredBasis) → ℕ → ℕ → Row b.n → 1 < b.p → Poly (ZMod b.p) (Row b.n)
 line_multiple b k = multiple_of b.p b.n (generator_at b k)
-
--- Of the first count leading monomials the one at place k is the earliest that divides m.
-pub record FirstDivisor (n count : ℕ) (leads : ℕ → Row n) (m : Row n) (k : ℕ) : Type 0 where
-  pub within : k ≤ count
-  pub before : (j : ℕ) → j < k → divides n (leads j) m ≡ false
-  pub here : k < count → divides n (leads k) m ≡ true
 
 -- What w holds can be divided by the lines of a sound basis: it is zero at m and above it, and m has a place.
 pub record Dividend (b : StoredBasis) (w : List ℕ) (m : Row b.n) : Type 0 where

@@ -7,13 +7,9 @@
 --   space                  C(39, 4) = 82,251, the number of places up to that degree
 --   HasPlace n a           a has at most four variables, and at most that degree
 --   PlaceIs n a r          r is its place, one of these
---   ExponentIs m i r       r is the exponent of variable i
---   ExponentPut m i x r    r has the exponent x of variable i, and the other exponents of m
 use Rattle.std.specs.Prelude.{ℕ, zero, suc, ◌+◌, ◌-◌, ◌≤◌, ◌<◌, ◌≡◌}
 use Rattle.monomial.specs.Sizes.{most_variables}
 use Rattle.monomial.specs.Rows.{Row, exponent, degree}
-use Rattle.monomial.specs.Represented.{row, most_entry}
-use Rattle.monomial.specs.declared.Monomial.{Monomial}
 use Rattle.lines.specs.Sizes.{most_standard}
 
 -- C(d + k - 1, k): in k + 1 variables, those of degree below d, and those of degree d.
@@ -56,13 +52,3 @@ pub record HasPlace (n : ℕ) (a : Row n) : Type 0 where
 pub record PlaceIs (n : ℕ) (a : Row n) (r : ℕ) : Type 0 where
   pub value : r ≡ place n a
   pub inside : r < space
-
--- The exponent of variable i is r.
-pub record ExponentIs (m : Monomial) (i r : ℕ) : Type 0 where
-  pub value : (n : ℕ) → i < n → r ≡ exponent n (row n m) i
-  pub small : r ≤ most_entry
-
--- The monomial r is m but for the exponent x of variable i.
-pub record ExponentPut (m : Monomial) (i x : ℕ) (r : Monomial) : Type 0 where
-  pub here : (n : ℕ) → i < n → exponent n (row n r) i ≡ x
-  pub elsewhere : (n j : ℕ) → j < n → ¬ (j ≡ i) → exponent n (row n r) j ≡ exponent n (row n m) j

@@ -4,18 +4,17 @@
 //   add_line                the multiple of a line whose leading monomial is given is added
 //   earliest                the earliest leading monomial that divides a monomial
 //   sweep                   all monomials in turn, from the greatest down
-ghost use Rattle.std.specs.Prelude.{◌≡◌, true, [], ◌∷◌, ◌≤◌, get_or};
+ghost use Rattle.std.specs.Prelude.{◌≡◌, true, [], ◌∷◌, ◌≤◌, take, position};
 ghost use Rattle.residue.specs.Field.{residue};
 ghost use Rattle.monomial.specs.Sizes.{most_variables};
-ghost use Rattle.monomial.specs.Rows.{one, product};
+ghost use Rattle.monomial.specs.Rows.{product};
 ghost use Rattle.monomial.specs.Quotients.{divides};
 ghost use Rattle.monomial.specs.Represented.{row};
 ghost use Rattle.lines.specs.Sizes.{most_lines};
 ghost use Rattle.lines.specs.Bases.{basis_in, Stored};
-ghost use Rattle.staircase.specs.Leads.{rows_of};
 ghost use Rattle.staircase.specs.Sound.{monomial_at, SoundLine};
 ghost use Rattle.division.specs.CoefficientArray.{Addend, AddsPolynomial};
-ghost use Rattle.division.specs.Clearing.{product_of, multiple_of, FirstDivisor, Dividend, Sweeps};
+ghost use Rattle.division.specs.Clearing.{product_of, multiple_of, Dividend, Sweeps};
 
 use crate::grevlex::{before, place};
 use lines::Shape;
@@ -40,12 +39,10 @@ fn add_product(work: &mut [u16], c: Residue, u: Monomial, g: Generator, p: u16, 
     requires { SoundLine p n g × Addend p n work.old c.0 (product n (row n u) (row n (monomial_at g 0))) }
     ensures { AddsPolynomial p n work.old work.new (product_of p n g c.0 (row n u)) }
 {
-    let mut k: usize = 0;
-    while k < g.terms {
+    for k in 0..g.terms {
         let d = g.coefficients[k];
         let m = g.monomials[k];
-        add_term(&mut *work, c.mul(d, p), u.product(m, n), p, n);
-        k += 1;
+        add_term(work, c.mul(d, p), u.product(m, n), p, n);
     }
 }
 
@@ -55,22 +52,17 @@ pub fn add_line(work: &mut [u16], c: Residue, m: Monomial, g: Generator, p: u16,
     ensures { AddsPolynomial p n work.old work.new (multiple_of p n g c.0 (row n m)) }
 {
     let u = m.quotient(g.monomials[0], n);
-    add_product(&mut *work, c, u, g, p, n);
+    add_product(work, c, u, g, p, n);
 }
 
-// The earliest leading monomial that divides m, counted from 0; their number if there is none.
-fn earliest(leads: Leads, m: Monomial, n: usize) -> usize
+// The place of the earliest leading monomial that divides m.
+fn earliest(leads: Leads, m: Monomial, n: usize) -> Option<usize>
     requires { (leads.count ≤ most_lines) × (n ≤ most_variables) }
-    ensures { FirstDivisor n leads.count (λ j. get_or (rows_of n leads.count leads.monomials) j (one n)) (row n m) result }
+    ensures { result ≡ position (λ d. divides n (row n d) (row n m)) (take leads.count leads.monomials) }
 {
-    let mut k: usize = 0;
-    while k < leads.count {
-        if leads.monomials[k].divides(m, n) {
-            return k;
-        }
-        k += 1;
-    }
-    k
+    leads.monomials[..leads.count]
+        .iter()
+        .position(|d| d.divides(m, n))
 }
 
 // Whether the remainder of what the array holds is zero: each monomial in turn, from the greatest down, is cleared by the earliest line that divides it.
@@ -88,18 +80,15 @@ pub fn sweep(
 {
     let leads = Leads::of(exponents, shape.lines);
     let mut m = top;
-    let mut at = place(top, shape.n);
-    while 0 < at {
-        at -= 1;
+    for at in (0..place(top, shape.n)).rev() {
         m = before(m, shape.n);
         let c = Residue(work[at]);
         if !c.is_zero() {
-            let k = earliest(leads, m, shape.n);
-            if k == shape.lines {
+            let Some(k) = earliest(leads, m, shape.n) else {
                 return false;
-            }
+            };
             let g = line_at(counts, coefficients, exponents, k);
-            add_line(&mut *work, c.neg(shape.p), m, g, shape.p, shape.n);
+            add_line(work, c.neg(shape.p), m, g, shape.p, shape.n);
         }
     }
     true

@@ -1,8 +1,8 @@
 // The place of a monomial in grevlex order, from 0, and the monomial at the place before.
 ghost use Rattle.std.specs.Prelude.{◌≡◌, suc, ◌≤◌, ◌<◌};
 ghost use Rattle.monomial.specs.Sizes.{most_variables};
-ghost use Rattle.monomial.specs.Represented.{row, most_entry};
-ghost use Rattle.division.specs.GrevlexPlace.{monomials_below, place, most_degree, space, HasPlace, PlaceIs, ExponentIs, ExponentPut};
+ghost use Rattle.monomial.specs.Represented.{row};
+ghost use Rattle.division.specs.GrevlexPlace.{monomials_below, place, most_degree, space, HasPlace, PlaceIs};
 
 use lines::sizes::MAX_STANDARD;
 use monomial::variable::first_variable;
@@ -21,30 +21,14 @@ pub fn max_space() -> usize
     SPACE
 }
 
-fn entry(x: Exponent) -> usize
-    ensures { (result ≡ x.0) × (result ≤ most_entry) }
-{
-    x.0 as usize
-}
-
-// The exponent of variable i, counted from 0.
-fn exponent(m: Monomial, i: usize) -> usize
-    requires { i < most_variables }
-    ensures { ExponentIs m i result }
-{
-    entry(m.e[i])
-}
-
 // C(d + k - 1, k), each from the one before.
 fn monomials_below(k: usize, d: usize) -> usize
     requires { (k ≤ most_variables) × (d ≤ suc most_degree) }
     ensures { result ≡ monomials_below k d }
 {
-    let mut count: usize = 1;
-    let mut j: usize = 0;
-    while j < k {
+    let mut count = 1;
+    for j in 0..k {
         count = (d + j) * count / (j + 1);
-        j += 1;
     }
     count
 }
@@ -54,37 +38,26 @@ pub fn place(m: Monomial, n: usize) -> usize
     requires { HasPlace n (row n m) }
     ensures { PlaceIs n (row n m) result }
 {
-    let mut at: usize = 0;
-    let mut sum: usize = 0;
-    let mut i: usize = 0;
-    while i < n {
-        sum += exponent(m, i);
-        i += 1;
-        at += monomials_below(i, sum);
+    let mut at = 0;
+    let mut sum = 0;
+    for (i, x) in m.e[..n].iter().enumerate() {
+        sum += usize::from(x.0);
+        at += monomials_below(i + 1, sum);
     }
     at
 }
 
-// m with the exponent x of variable i.
-fn with_exponent(mut m: Monomial, i: usize, x: usize) -> Monomial
-    requires { (i < most_variables) × (x ≤ most_entry) }
-    ensures { ExponentPut m i x result }
-{
-    m.e[i] = Exponent(x as u8);
-    m
-}
-
 // The lowest sum of first exponents that is not 0 falls by 1, and all below it take its new value.
-pub fn before(m: Monomial, n: usize) -> Monomial
+pub fn before(mut m: Monomial, n: usize) -> Monomial
     requires { HasPlace n (row n m) × (0 < place n (row n m)) }
     ensures { suc (place n (row n result)) ≡ place n (row n m) }
 {
     let i = first_variable(m, n);
-    let x = exponent(m, i) - 1;
-    let cleared = with_exponent(m, i, 0);
-    if i + 1 == n {
-        return with_exponent(cleared, 0, x);
+    let x = m.e[i].0 - 1;
+    m.e[i] = Exponent(0);
+    if i + 1 < n {
+        m.e[i + 1].0 += 1;
     }
-    let raised = with_exponent(cleared, i + 1, exponent(m, i + 1) + 1);
-    with_exponent(raised, 0, x)
+    m.e[0] = Exponent(x);
+    m
 }

@@ -4,9 +4,8 @@
 //   load_pair        the S-polynomial of two lines, into the array
 //   pair_fails       whether its remainder is not zero
 //   earlier_fails    whether it is so for a line and an earlier one
-//   erase            the array holds zero
 //   first_failing    the number of the first line for which it is so
-ghost use Rattle.std.specs.Prelude.{◌≡◌, List, ℕ, ◌≤◌, ◌<◌, length, get_or};
+ghost use Rattle.std.specs.Prelude.{◌≡◌, List, ℕ, ◌≤◌, ◌<◌, length};
 ghost use Rattle.monomial.specs.Sizes.{most_variables};
 ghost use Rattle.monomial.specs.Represented.{row};
 ghost use Rattle.lines.specs.Sizes.{most_lines};
@@ -50,8 +49,8 @@ fn load_pair(
     let one = Residue::ONE;
     let f = line_at(counts, coefficients, exponents, i);
     let g = line_at(counts, coefficients, exponents, j);
-    add_line(&mut *work, one, top, f, shape.p, shape.n);
-    add_line(&mut *work, one.neg(shape.p), top, g, shape.p, shape.n);
+    add_line(work, one, top, f, shape.p, shape.n);
+    add_line(work, one.neg(shape.p), top, g, shape.p, shape.n);
 }
 
 // Whether the remainder of the S-polynomial of lines i and j is not zero. The array holds zero, and does so afterwards if the remainder is zero.
@@ -68,17 +67,8 @@ fn pair_fails(
     ensures { PairSays (basis_in shape counts.now coefficients.now exponents.now) i j work.new result }
 {
     let top = lead_lcm(exponents, shape, i, j);
-    load_pair(
-        &mut *work,
-        counts,
-        coefficients,
-        exponents,
-        shape,
-        i,
-        j,
-        top,
-    );
-    !sweep(&mut *work, counts, coefficients, exponents, shape, top)
+    load_pair(work, counts, coefficients, exponents, shape, i, j, top);
+    !sweep(work, counts, coefficients, exponents, shape, top)
 }
 
 // Whether it is so for line j and an earlier line, tried in rising order.
@@ -93,44 +83,30 @@ fn earlier_fails(
     requires { Stored shape counts.now coefficients.now exponents.now (λ b. PairableOn b work.old) × (j < shape.lines) }
     ensures { EarlierSays (basis_in shape counts.now coefficients.now exponents.now) j work.new result }
 {
-    let mut i: usize = 0;
-    while i < j {
-        if pair_fails(&mut *work, counts, coefficients, exponents, shape, i, j) {
+    for i in 0..j {
+        if pair_fails(work, counts, coefficients, exponents, shape, i, j) {
             return true;
         }
-        i += 1;
     }
     false
 }
 
-fn erase(work: &mut [u16])
-    ensures { (length work.new ≡ length work.old) × ((k : ℕ) → get_or work.new k 0 ≡ 0) }
-{
-    let mut i: usize = 0;
-    while i < work.len() {
-        work[i] = 0;
-        i += 1;
-    }
-}
-
-// The number of the first line for which it is so with an earlier line; 0 if there is none.
+// The number of the first line for which it is so with an earlier line.
 pub fn first_failing(
     work: &mut [u16],
     counts: &[usize],
     coefficients: &[u16],
     exponents: &[u8],
     shape: Shape,
-) -> usize
+) -> Option<usize>
     requires { Stored shape counts.now coefficients.now exponents.now Pairable × (space ≤ length work.old) }
     ensures { FirstFailing (basis_in shape counts.now coefficients.now exponents.now) result }
 {
-    erase(&mut *work);
-    let mut j: usize = 0;
-    while j < shape.lines {
-        if earlier_fails(&mut *work, counts, coefficients, exponents, shape, j) {
-            return j + 2;
+    work.fill(0);
+    for j in 0..shape.lines {
+        if earlier_fails(work, counts, coefficients, exponents, shape, j) {
+            return Some(j + 2);
         }
-        j += 1;
     }
-    0
+    None
 }

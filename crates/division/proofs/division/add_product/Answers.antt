@@ -14,16 +14,6 @@ loop-k-init c =
     let (line, addend) = c.requires in
     added-start _ _ _ _ _ (search (length-mapped, rules)) (search (length-mapped, rules)) addend.work.residues
 
-pub bounds-g-k : goal.bounds-g-k
-bounds-g-k c =
-    let (line, addend) = c.requires in
-    omega (arith, c.loop-k.invariant.coefficients, line.few)
-
-pub bounds-g-k-in-loop-k : goal.bounds-g-k-in-loop-k
-bounds-g-k-in-loop-k c =
-    let (line, addend) = c.requires in
-    omega (arith, c.loop-k.invariant.monomials, line.few)
-
 pub mul-requires : goal.mul-requires
 unfolding coefficient_at
 mul-requires c =
@@ -58,9 +48,6 @@ loop-k-preserved c =
     let k = c.loop-k.k in
     let m = term-row n _ g k _ c.product.ensures in
     added-turn _ n _ _ g line k c.loop-k.invariant c.loop-k-test.true c.mul.ensures.0 m c.add_term.ensures
-
-pub shape_of-work : goal.shape_of-work
-shape_of-work c = c.loop-k.invariant.adds.length
 
 pub returns : goal.returns
 unfolding line_terms

@@ -7,19 +7,10 @@ use Rattle.division.specs.GrevlexPlace.{place}
 use Rattle.division.proofs.AddedTerms.{adds-store}
 use Rattle.division.proofs.division.add_term.Goals as goal
 
-pub place-at-requires : goal.place-at-requires
-place-at-requires c = record { variables = c.requires.work.variables.most; low = c.requires.low }
-
-pub bounds-work-at : goal.bounds-work-at
-bounds-work-at c = omega (arith, c.requires.work.room, c.place-at.ensures.inside)
-
 pub add-requires : goal.add-requires
 add-requires c =
     let pre = c.requires in
     (rw c.place-at.ensures.value (pre.work.residues _), pre.residue, pre.work.modulus.size)
-
-pub bounds-work-at-2 : goal.bounds-work-at-2
-bounds-work-at-2 c = omega (arith, c.requires.work.room, c.place-at.ensures.inside)
 
 pub returns : goal.returns
 returns c =

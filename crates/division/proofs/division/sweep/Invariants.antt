@@ -6,6 +6,3 @@ use Rattle.division.proofs.division.sweep.Given as goal
 
 abbrev pub invariant-loop-at : goal.invariant-loop-at
 invariant-loop-at l = Swept (basis_in l.shape l.counts l.coefficients l.exponents) l.initial.work l.work (row l.shape.n l.m) l.at
-
-abbrev pub decreases-loop-at : goal.decreases-loop-at
-decreases-loop-at l = l.at

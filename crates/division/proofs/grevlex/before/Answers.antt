@@ -1,47 +1,64 @@
 -- `before` meets its contract.
-use mathlib.Core.Path.{refl}
-use Prim.Native.Nat.{◌+◌, ◌<◌}
+use mathlib.Core.Path.{◌≡◌, refl, ◌∙◌, ap}
+use Prim.Native.Nat.{ℕ, ◌+◌, ◌-◌, ◌≤◌, ◌<◌}
 use native.Mathlib.Omega.{arith}
+use borrow.Author.Rules.{rules}
+use lib.ListN.{length, get_or, length-set}
+use lib.Seq.{get_or-set_other}
+use Rattle.lists.proofs.Elements.{length-mapped}
+use Rattle.monomial.specs.Sizes.{most_variables}
+use Rattle.monomial.specs.Rows.{exponent}
 use Rattle.monomial.specs.Represented.{row}
+use Rattle.monomial.specs.declared.Exponent.{Exponent}
 use Rattle.division.proofs.GrevlexPlaces.{exponent-degree}
+use Rattle.division.proofs.StoredExponent.{exponent-read, exponent-put}
 use Rattle.division.proofs.StepDown.{step-found, step-last, step-middle}
-use Rattle.division.proofs.grevlex.before.Goals.{After-first_variable-i}
+use Rattle.division.proofs.grevlex.before.Goals.{After-first_variable-i, then-i-n, else-i-n}
 use Rattle.division.proofs.grevlex.before.Goals as goal
 
 -- Some exponent is not 0.
 found : (c : After-first_variable-i) → c.first_variable-i.result < c.args.n
 found c = let (has, above) = c.requires in step-found _ _ c.first_variable-i.ensures above
 
-pub exponent-x-requires : goal.exponent-x-requires
-exponent-x-requires c = omega (arith, found c)
+pub bounds-m-i : goal.bounds-m-i
+bounds-m-i c = omega (arith, found c, c.requires.0.variables)
 
 pub overflow_sub-x : goal.overflow_sub-x
 overflow_sub-x c =
-    let h = found (goal.at.overflow_sub-x c).After-first_variable-i in
-    omega (arith, c.exponent-x.ensures.value _ h, c.first_variable-i.ensures.found h)
+    let h = found c in
+    omega (arith, exponent-read _ _ c.args.m h, c.first_variable-i.ensures.found h)
 
-pub with_exponent-cleared-requires : goal.with_exponent-cleared-requires
-with_exponent-cleared-requires c = (omega (arith, found (goal.at.with_exponent-cleared-requires c).After-first_variable-i), omega arith)
+pub bounds-m-i-2 : goal.bounds-m-i-2
+bounds-m-i-2 c = omega (arith, found c, c.requires.0.variables)
 
-pub returns-then-i-n : goal.returns-then-i-n
-returns-then-i-n c =
-    let h = found (goal.at.returns-then-i-n c).After-first_variable-i in
-    step-last _ _ c.first_variable-i.ensures h c.with_exponent-cleared.ensures (omega (arith, c.exponent-x.ensures.value _ h))
-    (omega arith) c.with_exponent.ensures
-
-pub exponent-requires : goal.exponent-requires
-exponent-requires c = omega (arith, found (goal.at.exponent-requires c).After-first_variable-i)
-
-pub with_exponent-raised-requires : goal.with_exponent-raised-requires
-with_exponent-raised-requires c =
+pub overflow_add-m-then-i-n : goal.overflow_add-m-then-i-n
+overflow_add-m-then-i-n c =
     let n = c.args.n in
+    let m = c.args.m in
     let i = c.first_variable-i.result in
-    let l : i + 1 < n = omega (arith, found (goal.at.with_exponent-raised-requires c).After-first_variable-i) in
-    (omega arith, omega (arith, c.exponent.ensures.value n l, exponent-degree n (row n c.args.m) (i + 1) l))
+    let l = c.if-i-n.true in
+    let other : ¬ (i + 1 ≡ i) = λ e. absurd (omega arith) in
+    let same = get_or-set_other m.e i (i + 1) (record { 0 = 0 }) (record { 0 = 0 }) other in
+    rw same (omega (arith, exponent-read n (i + 1) m l, exponent-degree n (row n m) (i + 1) l, c.requires.0.low))
 
 pub returns : goal.returns
 returns c =
+    let n = c.args.n in
+    let m = c.args.m in
+    let i = c.first_variable-i.result in
+    let f = c.first_variable-i.ensures in
     let h = found (goal.at.returns c).After-first_variable-i in
-    let l : c.first_variable-i.result + 1 < c.args.n = omega arith in
-    step-middle _ _ c.first_variable-i.ensures h c.with_exponent-cleared.ensures (omega (arith, c.exponent-x.ensures.value _ h))
-    refl l (omega (arith, c.exponent.ensures.value _ l)) c.with_exponent-raised.ensures c.with_exponent-2.ensures
+    let size : length m.e ≡ most_variables = search (length-mapped, rules) in
+    let few : n ≤ length m.e = omega (arith, c.requires.0.variables) in
+    let cleared = exponent-put m i (record { 0 = 0 }) (omega arith) in
+    let less : (get_or m.e i (record { 0 = 0 })).0 - 1 ≡ exponent n (row n m) i - 1 = omega (arith, exponent-read n i m h) in
+    elim c.if-i-n.branch [
+      | then-i-n w ↦
+          let l = w.if-i-n.true in
+          let other : ¬ (i + 1 ≡ i) = λ e. absurd (omega arith) in
+          let same = get_or-set_other m.e i (i + 1) (record { 0 = 0 }) (record { 0 = 0 }) other in
+          let more = ap (λ (x : Exponent). x.0 + 1) same ∙ ap (λ (x : ℕ). x + 1) (exponent-read n (i + 1) m l) in
+          rw w.m-is (step-middle n m f h cleared less refl l more (exponent-put _ (i + 1) _ (omega (arith, length-set {A = Exponent})))
+          (exponent-put _ 0 _ (omega (arith, length-set {A = Exponent}))))
+      | else-i-n w ↦ rw w.m-is (step-last n m f h cleared less (omega arith) (exponent-put _ 0 _ (omega (arith, length-set {A = Exponent}))))
+    ]

@@ -8,21 +8,17 @@ use Rattle.division.proofs.grevlex.monomials_below.Goals as goal
 
 pub loop-j-init : goal.loop-j-init
 unfolding monomials_below
-loop-j-init c = (omega arith, refl)
+loop-j-init c = refl
 
 pub overflow_mul-count : goal.overflow_mul-count
 overflow_mul-count c =
     let s = c.loop-j in
-    let (within, value) = s.invariant in
-    omega (arith, space-value, below-product s.j c.args.d s.count (omega arith) (omega arith) value)
+    omega (arith, space-value, below-product s.j c.args.d s.count (omega arith) (omega arith) s.invariant)
 
 pub loop-j-preserved : goal.loop-j-preserved
-loop-j-preserved c =
-    let (within, value) = c.loop-j.invariant in
-    (omega arith, rw (value, add-one) (below-divided c.loop-j.j c.args.d))
+loop-j-preserved c = rw (c.loop-j.invariant, add-one) (below-divided c.loop-j.j c.args.d)
 
 pub returns : goal.returns
 returns c =
     let e : c.loop-j.j ≡ c.args.k = omega arith in
-    let (within, value) = c.loop-j.invariant in
-    rw e at value
+    rw e at c.loop-j.invariant

@@ -1,11 +1,7 @@
 -- `place` meets its contract. The loop's invariant: the sum and the place of the first i exponents.
-use Prim.Native.Nat.{◌-◌}
 use Rattle.monomial.specs.Represented.{row}
 use Rattle.division.proofs.PlaceSums.{PlaceSum}
 use Rattle.division.proofs.grevlex.place.Given as goal
 
 abbrev pub invariant-loop-i : goal.invariant-loop-i
-invariant-loop-i l = PlaceSum l.n (row l.n l.m) l.i l.sum l.at
-
-abbrev pub decreases-loop-i : goal.decreases-loop-i
-decreases-loop-i l = l.n - l.i
+invariant-loop-i l = PlaceSum l.n (row l.n l.fn.m) l.i l.sum l.at

@@ -8,14 +8,6 @@ loop-i-init c =
     let (stored, later) = c.requires in
     earlier-start stored.basis
 
-pub pair_fails-requires : goal.pair_fails-requires
-pair_fails-requires c =
-    let (stored, later) = c.requires in
-    (record { arrays = stored.arrays; basis = c.loop-i.invariant.ready }, omega (arith, later), later)
-
-pub shape_of-work-then-pair_fails : goal.shape_of-work-then-pair_fails
-shape_of-work-then-pair_fails c = omega arith
-
 pub returns-then-pair_fails : goal.returns-then-pair_fails
 returns-then-pair_fails c =
     earlier-found c.loop-i.invariant c.loop-i-test.true c.pair_fails.ensures c.if-pair_fails.true
@@ -23,9 +15,6 @@ returns-then-pair_fails c =
 pub loop-i-preserved : goal.loop-i-preserved
 loop-i-preserved c =
     earlier-turn c.loop-i.invariant c.loop-i-test.true c.pair_fails.ensures (omega arith) c.if-pair_fails.false
-
-pub shape_of-work : goal.shape_of-work
-shape_of-work c = c.loop-i.invariant.size
 
 pub returns : goal.returns
 returns c = earlier-stop c.loop-i.invariant (omega arith)

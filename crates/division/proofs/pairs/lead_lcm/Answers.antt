@@ -2,21 +2,6 @@
 use Rattle.division.proofs.StoredLines.{lcm-read}
 use Rattle.division.proofs.pairs.lead_lcm.Goals as goal
 
-pub lead_at-f-requires : goal.lead_at-f-requires
-lead_at-f-requires c =
-    let (size, variables, left, right) = c.requires in
-    (left, size)
-
-pub lead_at-g-requires : goal.lead_at-g-requires
-lead_at-g-requires c =
-    let (size, variables, left, right) = c.requires in
-    (right, size)
-
-pub lcm-requires : goal.lcm-requires
-lcm-requires c =
-    let (size, variables, left, right) = c.requires in
-    variables
-
 pub returns : goal.returns
 returns c ts cs =
     let (size, variables, left, right) = c.requires in

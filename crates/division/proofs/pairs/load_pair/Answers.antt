@@ -1,5 +1,4 @@
 -- `load_pair` meets its contract.
-use native.Mathlib.Omega.{arith}
 use Rattle.lines.specs.Bases.{StoredBasis, basis_in}
 use Rattle.division.proofs.AddedTerms.{adds-work}
 use Rattle.division.proofs.StoredLines.{sound-read, divides-read, adds-read}
@@ -11,15 +10,6 @@ use Rattle.division.proofs.pairs.load_pair.Goals as goal
 abbrev lent : Start → StoredBasis
 lent c = basis_in c.args.shape c.args.counts.now c.args.coefficients.now c.args.exponents.now
 
-pub line_at-f-requires : goal.line_at-f-requires
-line_at-f-requires c =
-    let pair = c.requires.basis in
-    (omega (arith, pair.sound.few, pair.left), c.requires.arrays)
-
-pub line_at-g-requires : goal.line_at-g-requires
-line_at-g-requires c =
-    (omega (arith, c.requires.basis.sound.few, c.requires.basis.right), c.requires.arrays)
-
 pub add_line-requires : goal.add_line-requires
 add_line-requires c =
     let pair = c.requires.basis in (
@@ -27,10 +17,6 @@ add_line-requires c =
       record { work = pair.work; residue = pair.work.modulus.prime.above_one; low = pair.low },
       rw pair.common (divides-read _ _ _ _ pair.sound _ pair.left c.line_at-f.ensures _ (divides-left (lent (goal.at.add_line-requires c).Start) c.args.i c.args.j)),
     )
-
-pub neg-requires : goal.neg-requires
-neg-requires c =
-    c.requires.basis.work.modulus.prime.above_one
 
 pub add_line-requires-2 : goal.add_line-requires-2
 add_line-requires-2 c =

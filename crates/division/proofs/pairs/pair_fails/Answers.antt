@@ -1,15 +1,7 @@
 -- `pair_fails` meets its contract.
-use native.Mathlib.Omega.{arith}
 use Rattle.staircase.proofs.StoredBasis.{held-filled}
 use Rattle.division.proofs.PairDivision.{pair_of, pair-dividend, pair-says}
 use Rattle.division.proofs.pairs.pair_fails.Goals as goal
-
-pub lead_lcm-top-requires : goal.lead_lcm-top-requires
-lead_lcm-top-requires c =
-    let (stored, left, right) = c.requires in
-    let pairs = stored.basis in
-    let few = pairs.pairs.sound.few in
-    (stored.arrays.exponents, pairs.work.variables.most, omega (arith, few, left), omega (arith, few, right))
 
 pub load_pair-requires : goal.load_pair-requires
 load_pair-requires c =
