@@ -9,8 +9,8 @@
 --   whole-large                  14: `list_irreducibles` found too many
 --   lines_clear                  no monomial of a line is divisible by another line's leading monomial
 --   not-large                    `list_irreducibles` listed all
---   pairable                     so the least common multiples of leading monomials are low, as check 15 asks
---   whole-failing                15: the answer no of `is_groebner`, and that of `first_failing`
+--   failing                      15: the answer no of `is_groebner`: the basis is as `first_failing` asks, and check 15 speaks of a line
+--   whole-failing                the answer of `first_failing`
 --   whole-passes                 the answer yes: the basis passes
 use mathlib.Core.Path.{◌≡◌, refl, sym, ◌∙◌, ap, subst}
 use mathlib.Core.Bool.{Bool, true, false, false≢true}
@@ -21,6 +21,7 @@ use mathlib.Core.Option.{none}
 use Prim.Native.Nat.{ℕ, ◌≤◌, ◌<◌}
 use native.Mathlib.Omega.{arith}
 use lib.ListN.{length}
+use Rattle.std.specs.Prelude.{Some, None}
 use Rattle.lists.proofs.EachElement.{each_of, each_at}
 use Rattle.residue.specs.Prime.{Prime}
 use Rattle.residue.specs.Field.{modulo}
@@ -132,8 +133,12 @@ module _ (b : StoredBasis) where
     not-large h (k, e, once, each) =
         omega (arith, pigeon k (listed b.n l) once (λ m q. (irreducible.lists h).all m (each_at _ k each q)), e, rows-length b.n l.count l.monomials full, irreducible.few)
 
-    pub pairable : Pairable b
+    -- The least common multiples of leading monomials are low.
+    pairable : Pairable b
     pairable = let h = sound.modulus.prime.above_one in record { sound = sound; low = low-pairs b sound filled.lines h (pass h).0 (pass h).1 (not-large h) }
+
+    pub whole-failing : (k : ℕ) → FirstFailing b (Some k) → WholeVerdict b (Refused NotGroebner k)
+    whole-failing k first h = inr ((pass h).0, inr (λ z. z (pass h).1, inr (not-large h, inl (k, (first h).0, (first h).1, refl))))
 
     abbrev prime : 1 < b.p → Prime b.p
     prime h = record { above_one = h; no_divisor = sound.modulus.prime.no_divisor }
@@ -146,11 +151,11 @@ module _ (b : StoredBasis) where
       accepted : (h : 1 < b.p) → ((k : ℕ) → ¬ Failing (modulo b.p h) (monomials b.n) (stored_lines b h) (Grevlex b.n) k) ↔ (a ≡ true)
       accepted h = Iff.trans (failing-buchberger (ground b.p (prime h) b.n) (grevlex-order b.n) (stored_lines b h) (λ g q. ((lines h).falling g q).0)) (Iff.symm (acceptance.buchberger h))
 
-      pub whole-failing : (k : ℕ) → FirstFailing b k → a ≡ false → WholeVerdict b (Refused NotGroebner k)
-      whole-failing k first e h = inr ((pass h).0, inr (λ z. z (pass h).1, inr (not-large h, smallest-refuses 15 Passes (first h) some)))
-        where
-          some : ¬ (k ≡ 0)
-          some z = false≢true (sym e ∙ (accepted h).0 (smallest-passes (subst (Smallest _) z (first h)) (λ f. f.later)))
+      some-failing : a ≡ false → ¬ FirstFailing b None
+      some-failing e never = let h = sound.modulus.prime.above_one in false≢true (sym e ∙ (accepted h).0 (never h))
+
+      pub failing : a ≡ false → Pairable b × ¬ FirstFailing b None
+      failing e = (pairable, some-failing e)
 
       passing : a ≡ true → (h : 1 < b.p) → Passing b.p (prime h) b.n (stored_lines b h)
       passing e h = record { undivided = (pass h).0; dimension = λ z. z (pass h).1; unfailing = (accepted h).1 e }

@@ -48,13 +48,13 @@ fn refused(shape: Shape, r: Refusal, line: usize) -> TextCheck
     }
 }
 
-// The line that 15 names, by division on an array of its own.
+// The line that 15 names where it names one, by division on an array of its own.
 fn failing_line(counts: &[usize], coefficients: &[u16], exponents: &[u8], shape: Shape) -> usize
-    requires { Stored shape counts.now coefficients.now exponents.now Pairable }
-    ensures { FirstFailing (basis_in shape counts.now coefficients.now exponents.now) result }
+    requires { Stored shape counts.now coefficients.now exponents.now (λ b. Pairable b × ¬ FirstFailing b None) }
+    ensures { FirstFailing (basis_in shape counts.now coefficients.now exponents.now) (Some result) }
 {
     let mut work = [0; SPACE];
-    first_failing(&mut work, counts, coefficients, exponents, shape)
+    first_failing(&mut work, counts, coefficients, exponents, shape).unwrap()
 }
 
 // 14 and 15, after 12 and 13.

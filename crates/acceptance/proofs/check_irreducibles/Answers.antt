@@ -13,7 +13,7 @@ use Rattle.staircase.proofs.StoredBasis.{held-filled}
 use Rattle.staircase.proofs.SoundLines.{sound-lines}
 use Rattle.staircase.proofs.IrreducibleLists.{sorted-irreducibles}
 use Rattle.multiplication.proofs.AllRows.{no-rows-length}
-use Rattle.acceptance.proofs.WholeChecks.{says-refused, whole-large, pairable, lines_clear, whole-failing, whole-passes}
+use Rattle.acceptance.proofs.WholeChecks.{says-refused, whole-large, lines_clear, whole-failing, failing, whole-passes}
 use Rattle.acceptance.proofs.check_irreducibles.Goals.{After-by_grevlex-s, Start}
 use Rattle.acceptance.proofs.check_irreducibles.Goals as goal
 
@@ -69,7 +69,9 @@ is_groebner-requires c =
 pub failing_line-requires : goal.failing_line-requires
 failing_line-requires c =
     let s = c.requires.1 in
-    record { arrays = s.arrays; basis = pairable _ s.basis.sound (filled (goal.at.failing_line-requires c).Start) s.basis.pass _ (irreducible (goal.at.failing_line-requires c).After-by_grevlex-s) (full (goal.at.failing_line-requires c).After-by_grevlex-s) }
+    let b = s.basis in
+    let (size, accepted) = c.is_groebner.ensures in
+    record { arrays = s.arrays; basis = failing _ b.sound (filled (goal.at.failing_line-requires c).Start) b.pass _ (irreducible (goal.at.failing_line-requires c).After-by_grevlex-s) (full (goal.at.failing_line-requires c).After-by_grevlex-s) _ _ accepted c.if-not-is_groebner.true }
 
 pub shape_of-cells-then-not-is_groebner : goal.shape_of-cells-then-not-is_groebner
 shape_of-cells-then-not-is_groebner c = c.is_groebner.ensures.0 ∙ sym (no-rows-length c.requires.0)
@@ -78,8 +80,7 @@ pub returns-then-not-is_groebner : goal.returns-then-not-is_groebner
 returns-then-not-is_groebner c =
     let b = c.requires.1.basis in
     let (size, accepted) = c.is_groebner.ensures in
-    let no = c.if-not-is_groebner.true in
-    let whole = whole-failing _ b.sound (filled (goal.at.returns-then-not-is_groebner c).Start) b.pass _ (irreducible (goal.at.returns-then-not-is_groebner c).After-by_grevlex-s) (full (goal.at.returns-then-not-is_groebner c).After-by_grevlex-s) _ _ accepted _ c.failing_line.ensures no in
+    let whole = whole-failing _ b.sound (filled (goal.at.returns-then-not-is_groebner c).Start) b.pass _ (irreducible (goal.at.returns-then-not-is_groebner c).After-by_grevlex-s) (full (goal.at.returns-then-not-is_groebner c).After-by_grevlex-s) _ c.failing_line.ensures in
     (c.refused-then-not-is_groebner.ensures.0, says-refused _ _ _ _ size c.refused-then-not-is_groebner.ensures.1 whole)
 
 pub shape_of-cells : goal.shape_of-cells
