@@ -11,11 +11,10 @@ use mathlib.Core.List.{List, [], ◌∷◌, ◌++◌}
 use mathlib.Core.Bool.{true, false}
 use native.Mathlib.Omega.{arith}
 use lib.ListN.{length, drop, length-drop}
+use Rattle.std.specs.Prelude.{Option, Some, None}
 use Rattle.lists.specs.Lists.{Bytes}
 use Rattle.tabtext.specs.Readers.{got, bad, Reader, pure, ◌>>◌, starts_with, read_byte, more_fields, read_fields}
 use Rattle.tabtext.specs.Answers.{Reading, NextSays}
-use Rattle.tabtext.specs.declared.terms.Next.{Next}
-use Rattle.tabtext.specs.declared.terms.Next.TheVariants.{At, Bad}
 use Rattle.tabtext.proofs.Steps.{then-got, then-bad, after-got, after-bad}
 use Rattle.tabtext.proofs.Places.{byte-got}
 
@@ -71,9 +70,9 @@ module _ {A : Type 0} (one : Reader A) where
       pub no_field : starts_with 9 (drop i s) ≡ true → one (drop i s) ≡ bad → read_fields one (drop at s) ≡ bad
       no_field e q = inv.rest ∙ fields-bad (suc inv.bound) inv.fields (drop i s) e q
 
-      pub stop : (r : Next) → starts_with 9 (drop i s) ≡ false → NextSays (read_byte 10) s i r → NextSays (read_fields one) s at r
+      pub stop : (r : Option ℕ) → starts_with 9 (drop i s) ≡ false → NextSays (read_byte 10) s i r → NextSays (read_fields one) s at r
       unfolding pure
-      stop (At k) e h = (
+      stop (Some k) e h = (
         inv.fields,
         record {
           reads = inv.rest ∙ fields-end inv.bound inv.fields (drop i s) e ∙ after-got _ _ _ h.1.reads;
@@ -81,4 +80,4 @@ module _ {A : Type 0} (one : Reader A) where
           inside = h.1.inside;
         },
       )
-      stop Bad e h = inv.rest ∙ fields-end inv.bound inv.fields (drop i s) e ∙ after-bad _ _ _ h
+      stop None e h = inv.rest ∙ fields-end inv.bound inv.fields (drop i s) e ∙ after-bad _ _ _ h

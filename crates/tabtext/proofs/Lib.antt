@@ -11,7 +11,6 @@
 --   FirstWord       the first word of a line decides its kind
 --   Lines           lines: likewise; the form of a line, and that it is unique
 --   NumberLoop      the loop of `read_number`
---   WordLoop        the loop of `word_at`
 --   OrderLoop       the loop of `read_order`
 --   RowLoop         the loop of `read_exponents`
 --   FieldLoop       the loop of `read_terms` and of `read_rows`
@@ -37,7 +36,6 @@ pub mod LineKinds
 pub mod FirstWord
 pub mod Lines
 pub mod NumberLoop
-pub mod WordLoop
 pub mod OrderLoop
 pub mod RowLoop
 pub mod FieldLoop

@@ -13,30 +13,26 @@ use native.Mathlib.Numerals.{sub-one}
 use lib.ListN.{length, drop}
 use lib.Seq.{drop-drop}
 use borrow.Author.Tests.{le-leb, lt-leb, ne_eqb}
+use Rattle.std.specs.Prelude.{Some, None}
 use Rattle.lists.specs.Lists.{Bytes}
 use Rattle.tabtext.specs.Text.{Number}
 use Rattle.tabtext.specs.Readers.{got, bad, digit, more_digits, read_number}
-use Rattle.tabtext.specs.Answers.{Reading}
+use Rattle.tabtext.specs.Answers.{Reading, DigitSays}
 use Rattle.tabtext.proofs.Places.{digit-within}
 
-pub bad-first : (s : Bytes) (d : ℕ) → d ≡ digit s → 9 < d → read_number s ≡ bad
+pub bad-first : (s : Bytes) → 9 < digit s → read_number s ≡ bad
 unfolding read_number
-bad-first s d e h = rw (read_number, lt-leb _ _ (rw e at h))
+bad-first s h = rw (read_number, lt-leb _ _ h)
 
-pub zero-first : (s : Bytes) (at d : ℕ) → d ≡ digit (drop at s) → d ≡ 0 →
-    Reading read_number s at 0 (at + 1)
+pub zero-first : (s : Bytes) (at d : ℕ) → DigitSays s at (Some d) → d ≡ 0 → Reading read_number s at 0 (at + 1)
 unfolding read_number
 zero-first s at d e z =
-    let q = sym e ∙ z in
-    let within : at < length s = digit-within s at e (omega arith) in
+    let q = sym e.0 ∙ z in
+    let within : at < length s = digit-within s at e.0 e.1 in
     record { reads = rw (read_number, q, q, drop-drop 1 at s); after = omega arith; inside = omega arith }
 
--- A number of which k digits are to come has at most 5.
-below-cap : (k v : ℕ) → v < 10 ^ (5 - k) → Number v
-below-cap k v h = lt_of_lt_of_le h (pow-le-pow_right {n = 10} (omega arith) {i = 5 - k} {j = 5} (omega arith))
-
-below_more : (k v e : ℕ) → 0 < k → k ≤ 4 → v < 10 ^ (5 - k) → e ≤ 9 → v * 10 + e < 10 ^ (5 - (k - 1))
-below_more k v e p m h d = let q : 5 - (k - 1) ≡ suc (5 - k) = omega arith in rw q (omega (arith, pow-suc 10 (5 - k)))
+below_more : (k v e : ℕ) → v < 10 ^ k → e ≤ 9 → v * 10 + e < 10 ^ suc k
+below_more k v e h d = omega (arith, pow-suc 10 k)
 
 more-digit : (k v : ℕ) (s : Bytes) → 0 < k → digit s ≤ 9 → more_digits k v s ≡ more_digits (k - 1) (v * 10 + digit s) (drop 1 s)
 unfolding more_digits
@@ -53,44 +49,51 @@ unfolding more_digits
 more-full zero v s h = refl
 more-full (suc k) v s h = absurd (omega arith)
 
-pub record DigitsInv (s : Bytes) (at v i k : ℕ) : Type 0 where
-  pub rest : read_number (drop at s) ≡ more_digits k v (drop i s)
-  pub below : v < 10 ^ (5 - k)
-  pub most : k ≤ 4
+-- The digits from `at` up to i are read, and at most five are.
+pub record DigitsInv (s : Bytes) (at v i : ℕ) : Type 0 where
+  pub rest : read_number (drop at s) ≡ more_digits (at + 5 - i) v (drop i s)
+  pub below : v < 10 ^ (i - at)
   pub after : at < i
+  pub most : i ≤ at + 5
   pub inside : i ≤ length s
 
 module _ (s : Bytes) (at : ℕ) where
-  pub start : (d : ℕ) → d ≡ digit (drop at s) → d ≤ 9 → (d ≡ 0 → ⊥) → DigitsInv s at d (at + 1) 4
+  pub start : (d : ℕ) → DigitSays s at (Some d) → (d ≡ 0 → ⊥) → DigitsInv s at d (at + 1)
   unfolding read_number
-  start d e h z =
-      let within : at < length s = digit-within s at e h in
+  start d e z =
+      let within : at < length s = digit-within s at e.0 e.1 in
+      let four : at + 5 - (at + 1) ≡ 4 = omega arith in
+      let one : at + 1 - at ≡ 1 = omega arith in
       record {
-        rest = rw e (rw (read_number, le-leb _ _ (rw e at h), ne_eqb _ _ (rw e at z), drop-drop 1 at s));
-        below = omega arith;
-        most = omega arith;
+        rest = rw (four, e.0) (rw (read_number, le-leb _ _ (rw e.0 at e.1), ne_eqb _ _ (rw e.0 at z), drop-drop 1 at s));
+        below = rw one (omega (arith, e.1));
         after = omega arith;
+        most = omega arith;
         inside = omega arith;
       }
 
-  module _ (v i k : ℕ) (inv : DigitsInv s at v i k) where
+  module _ (v i : ℕ) (inv : DigitsInv s at v i) where
     pub small : Number v
-    small = below-cap k v inv.below
+    small = lt_of_lt_of_le inv.below (pow-le-pow_right {n = 10} (omega arith) {i = i - at} {j = 5} (omega (arith, inv.most)))
 
-    pub turn : (d : ℕ) → 0 < k → d ≡ digit (drop i s) → d ≤ 9 → DigitsInv s at (v * 10 + d) (i + 1) (k - 1)
-    turn d p e h =
-        let g : digit (drop i s) ≤ 9 = rw e at h in
-        let within : i < length s = digit-within s i e h in
+    pub turn : (d : ℕ) → i < at + 5 → DigitSays s i (Some d) → DigitsInv s at (v * 10 + d) (i + 1)
+    turn d p e =
+        let g : digit (drop i s) ≤ 9 = rw e.0 at e.1 in
+        let within : i < length s = digit-within s i e.0 e.1 in
+        let less : at + 5 - i - 1 ≡ at + 5 - (i + 1) = omega arith in
+        let longer : i + 1 - at ≡ suc (i - at) = omega (arith, inv.after) in
         record {
-          rest = inv.rest ∙ more-digit k v (drop i s) p g ∙ rw (e, drop-drop 1 i s);
-          below = below_more k v d p inv.most inv.below h;
-          most = omega (arith, inv.most);
+          rest = inv.rest ∙ more-digit (at + 5 - i) v (drop i s) (omega arith) g ∙ rw (less, e.0, drop-drop 1 i s);
+          below = rw longer (below_more (i - at) v d inv.below e.1);
           after = omega (arith, inv.after);
+          most = omega arith;
           inside = omega arith;
         }
 
-    pub stop : (d : ℕ) → d ≡ digit (drop i s) → 9 < d → Reading read_number s at v i
-    stop d e h = record { reads = inv.rest ∙ more-end k v (drop i s) (rw e at h); after = inv.after; inside = inv.inside }
+    pub stop : DigitSays s i None → Reading read_number s at v i
+    stop h = record { reads = inv.rest ∙ more-end (at + 5 - i) v (drop i s) h; after = inv.after; inside = inv.inside }
 
-    pub full : k ≤ 0 → Reading read_number s at v i
-    full h = record { reads = inv.rest ∙ more-full k v (drop i s) h; after = inv.after; inside = inv.inside }
+    pub full : at + 5 ≤ i → Reading read_number s at v (at + 5)
+    full h =
+        let all : i ≡ at + 5 = omega (arith, inv.most) in
+        record { reads = inv.rest ∙ more-full (at + 5 - i) v (drop i s) (omega arith) ∙ rw all; after = omega arith; inside = rw all at inv.inside }

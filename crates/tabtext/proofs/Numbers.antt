@@ -132,5 +132,5 @@ number-of-read s {v} {rest} e = elim (dec_lt (digit s) 10) [
             let same : 0 ≡ v = got-value r in
             (omega arith, cons-digit s (omega arith) ∙ rw (z, ← same, got-rest r))
       ]
-  | no q ↦ absurd (got-not-bad (sym e ∙ bad-first s (digit s) refl (omega arith)))
+  | no q ↦ absurd (got-not-bad (sym e ∙ bad-first s (omega arith)))
 ]

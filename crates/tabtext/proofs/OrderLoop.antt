@@ -35,36 +35,49 @@ unfolding more_letters
 more-full zero w s h = refl
 more-full (suc k) w s h = absurd (omega arith)
 
-pub record LettersInv (s : Bytes) (at i k : ℕ) : Type 0 where
+-- The letters from `at` up to i are read, and at most eight are.
+pub record LettersInv (s : Bytes) (at i : ℕ) : Type 0 where
   pub word : Bytes
-  pub rest : read_order (drop at s) ≡ more_letters k word (drop i s)
+  pub rest : read_order (drop at s) ≡ more_letters (at + 8 - i) word (drop i s)
   pub after : at < i
+  pub most : i ≤ at + 8
   pub inside : i ≤ length s
 
 module _ (s : Bytes) (at : ℕ) where
-  pub start : letter (drop at s) ≡ true → LettersInv s at (at + 1) 7
+  pub start : letter (drop at s) ≡ true → LettersInv s at (at + 1)
   unfolding read_order
   start e =
       let within : at < length s = letter-within s at e in
-      record { word = first (drop at s) ∷ []; rest = rw (read_order, e, drop-drop 1 at s); after = omega arith; inside = omega arith }
+      let seven : at + 8 - (at + 1) ≡ 7 = omega arith in
+      record {
+        word = first (drop at s) ∷ [];
+        rest = rw (seven, read_order, e, drop-drop 1 at s);
+        after = omega arith;
+        most = omega arith;
+        inside = omega arith;
+      }
 
-  module _ (i k : ℕ) (inv : LettersInv s at i k) where
-    pub turn : 0 < k → letter (drop i s) ≡ true → LettersInv s at (i + 1) (k - 1)
+  module _ (i : ℕ) (inv : LettersInv s at i) where
+    pub turn : i < at + 8 → letter (drop i s) ≡ true → LettersInv s at (i + 1)
     turn p e =
         let within : i < length s = letter-within s i e in
+        let less : at + 8 - i - 1 ≡ at + 8 - (i + 1) = omega arith in
         record {
           word = inv.word ++ (first (drop i s) ∷ []);
-          rest = inv.rest ∙ more-letter k inv.word (drop i s) p e ∙ rw (drop-drop 1 i s);
+          rest = inv.rest ∙ more-letter (at + 8 - i) inv.word (drop i s) (omega arith) e ∙ rw (less, drop-drop 1 i s);
           after = omega (arith, inv.after);
+          most = omega arith;
           inside = omega arith;
         }
 
     -- The letters so far are the word.
-    ends : more_letters k inv.word (drop i s) ≡ got inv.word (drop i s) → (v : Bytes) × Reading read_order s at v i
+    ends : more_letters (at + 8 - i) inv.word (drop i s) ≡ got inv.word (drop i s) → (v : Bytes) × Reading read_order s at v i
     ends e = (inv.word, record { reads = inv.rest ∙ e; after = inv.after; inside = inv.inside })
 
     pub stop : letter (drop i s) ≡ false → (v : Bytes) × Reading read_order s at v i
-    stop e = ends (more-end k inv.word (drop i s) e)
+    stop e = ends (more-end (at + 8 - i) inv.word (drop i s) e)
 
-    pub full : k ≤ 0 → (v : Bytes) × Reading read_order s at v i
-    full h = ends (more-full k inv.word (drop i s) h)
+    pub full : at + 8 ≤ i → (v : Bytes) × Reading read_order s at v (at + 8)
+    full h =
+        let all : i ≡ at + 8 = omega (arith, inv.most) in
+        rw all at (ends (more-full (at + 8 - i) inv.word (drop i s) (omega arith)))

@@ -13,10 +13,13 @@
 --                               which bytes are digits
 --   digit-past, digit-within    no digit stands past the end; a digit's place is within the text
 --   place_after                 the place after what was read
+--   byte-found, starts-found, letter-found, digit-found, digit-other
+--                               what `get` finds at a place: the byte, whether it is a given byte, a letter, a digit
 use Prim.Native.Nat.{ℕ, ◌+◌, ◌-◌, ◌≤◌, ◌<◌}
-use mathlib.Core.Path.{◌≡◌, refl, ap, sym, ◌∙◌}
+use mathlib.Core.Path.{◌≡◌, refl, ap, sym, subst, ◌∙◌}
 use mathlib.Core.List.{◌++◌}
-use mathlib.Core.Bool.{Bool, true, false}
+use mathlib.Core.Logic.{inl, inr}
+use mathlib.Core.Bool.{Bool, true, false, ◌&&◌}
 use native.Mathlib.Omega.{arith}
 use native.Mathlib.Decide.{dec_lt}
 use lib.Dec.{leb, eqb}
@@ -24,7 +27,13 @@ use lib.ListN.{length, drop, get_or, drop_of_length-le, length-append, length-dr
 use lib.Seq.{drop-cons, drop-drop}
 use borrow.Author.Tests.{le-leb, lt-leb, leb-true}
 use Rattle.lists.specs.Lists.{Bytes}
+use Rattle.std.specs.Prelude.{Option, Some, None, MatchOption}
+use Rattle.std.specs.Borrow.{Bor}
+use Rattle.std.specs.Char.{is_ascii_lowercase, IsAsciiDigit, IsNotAsciiDigit}
+use Rattle.std.specs.Option.{option_eq}
+use Rattle.std.specs.Slice.{IsItemAt}
 use Rattle.tabtext.specs.Readers.{got, bad, first, starts_with, read_byte, tab_ahead, letter, digit}
+use Rattle.tabtext.specs.Answers.{DigitSays}
 use Rattle.tabtext.proofs.Steps.{got-rest, got-not-bad}
 
 pub first-at : (s : Bytes) (i : ℕ) → i < length s → first (drop i s) ≡ get_or s i 0
@@ -115,3 +124,32 @@ digit-within s i e h = elim (dec_lt i (length s)) [ yes p ↦ p | no p ↦ absur
 
 pub place_after : (s w : Bytes) (i j : ℕ) → i ≤ length s → j ≤ length s → drop i s ≡ w ++ drop j s → j ≡ i + length w
 place_after s w i j p q e = omega (arith, simp (length-append, length-drop) at (ap length e))
+
+-- The byte that `get` finds.
+pub byte-found : (s : Bytes) (i : ℕ) (b : Bor ℕ) → IsItemAt s i (Some b) → b.now ≡ first (drop i s)
+byte-found s i b g = g.3.1 0 ∙ sym (first-at s i g.3.0)
+
+both : (t u : Bool) → elim t [ true ↦ u | false ↦ false ] ≡ (t && u)
+both true u = refl
+both false u = refl
+
+letter-of : (s : Bytes) (b : ℕ) → b ≡ first s → letter s ≡ is_ascii_lowercase b
+unfolding letter
+letter-of s b e = subst (λ x. elim (leb 97 x) [ true ↦ leb x 122 | false ↦ false ] ≡ is_ascii_lowercase b) e (both (leb 97 b) (leb b 122))
+
+pub letter-found : (s : Bytes) (i : ℕ) (r : Option (Bor ℕ)) {t : Bool} → IsItemAt s i r → MatchOption r (t ≡ false) (λ b. t ≡ is_ascii_lowercase b.now) → t ≡ letter (drop i s)
+letter-found s i (Some b) g e = e ∙ sym (letter-of _ _ (byte-found s i b g))
+letter-found s i None g e = e ∙ sym (letter-not (drop i s) 0 (sym (first_past s i g.3)) (omega arith))
+
+pub starts-found : (s : Bytes) (i : ℕ) (r : Option (Bor ℕ)) (b : Bor ℕ) → IsItemAt s i r → option_eq (λ x y. eqb x.now y.now) r (Some b) ≡ starts_with b.now (drop i s)
+starts-found s i (Some a) b g = ap (λ x. eqb x b.now) (g.3.1 0) ∙ sym (starts-at b.now s i g.3.0)
+starts-found s i None b g = sym (starts-past b.now s i g.3)
+
+pub digit-found : (s : Bytes) (i : ℕ) (b : Bor ℕ) → IsItemAt s i (Some b) → IsAsciiDigit b.now → DigitSays s i (Some (b.now - 48))
+digit-found s i b g d = (sym (digit-is _ _ (byte-found s i b g) d.0 d.1), omega (arith, d.1))
+
+pub digit-other : (s : Bytes) (i : ℕ) (b : Bor ℕ) → IsItemAt s i (Some b) → IsNotAsciiDigit b.now → DigitSays s i None
+digit-other s i b g d = elim d [
+  | inl below ↦ omega (arith, digit-below _ _ (byte-found s i b g) below)
+  | inr above ↦ omega (arith, digit-above _ _ (byte-found s i b g) above)
+]

@@ -1,7 +1,7 @@
 -- What the answer of `read_record` says of the text.
 --   RecordLine      a line found at a place: its bytes, its number, its kind, and the place after it
 --   record-found    a found record is that of a line of the form
---   record-bad      where the answer is bad no line is read
+--   record-none     where there is no record no line is read
 --   terms-of-line   the terms of a poly line, from the place where its span starts
 use Prim.Native.Nat.{ℕ, ◌+◌, ◌-◌, ◌≤◌, ◌<◌}
 use mathlib.Core.Path.{◌≡◌, refl, ap, sym, ◌∙◌}
@@ -9,13 +9,13 @@ use mathlib.Core.List.{List, [], ◌∷◌, ◌++◌, append_assoc}
 use native.Mathlib.Omega.{arith}
 use lib.ListN.{length, drop, length-append, length-drop}
 use lib.Seq.{drop-drop, drop-append_seam}
+use Rattle.std.specs.Prelude.{Option, Some, None}
 use Rattle.lists.specs.Lists.{Bytes}
 use Rattle.lines.specs.Terms.{Term}
 use Rattle.tabtext.specs.Text.{bytes, TextLine, generator, line, Form}
 use Rattle.tabtext.specs.Readers.{Got, got, bad, read_terms, read_line}
 use Rattle.tabtext.specs.Answers.{kind_of, read_of, read_at}
 use Rattle.tabtext.specs.declared.record.Record.{Record}
-use Rattle.tabtext.specs.declared.record.Read.TheVariants.{Found, Bad}
 use Rattle.tabtext.proofs.LineTexts.{generator-text}
 use Rattle.tabtext.proofs.LineKinds.{read-of-terms}
 use Rattle.tabtext.proofs.Lines.{print-of-read}
@@ -34,46 +34,43 @@ pub record RecordLine (n k : ℕ) (s : Bytes) (at : ℕ) (r : Record) (i : ℕ) 
 drop-after : (s u rest : Bytes) (at : ℕ) → drop at s ≡ u ++ rest → drop (at + length u) s ≡ rest
 drop-after s u rest at e = sym (drop-drop (length u) at s) ∙ ap (drop (length u)) e ∙ drop-append_seam u rest
 
-found-record : {r r' : Record} {i i' : ℕ} → Found r i ≡ Found r' i' → r ≡ r'
-found-record e = cc
+found : {x y : Record × ℕ} → Some x ≡ Some y → x ≡ y
+found e = cc
 
-found-place : {r r' : Record} {i i' : ℕ} → Found r i ≡ Found r' i' → i ≡ i'
-found-place e = cc
-
-bad-not-found : {r : Record} {i : ℕ} → Bad ≡ Found r i → ⊥
-bad-not-found e = let z : ◌≡◌ {A = ℕ} 0 1 = cc in omega arith
+none-not-found : {r : Record} {i : ℕ} → ◌≡◌ {A = Option (Record × ℕ)} None (Some (r, i)) → ⊥
+none-not-found e = let z : ◌≡◌ {A = ℕ} 0 1 = cc in omega arith
 
 module _ (n k : ℕ) (s : Bytes) (at : ℕ) where
-  pub record-found : (r : Record) (i : ℕ) → at ≤ length s → read_at n k s at ≡ Found r i → RecordLine n k s at r i
+  pub record-found : (r : Record) (i : ℕ) → at ≤ length s → read_at n k s at ≡ Some (r, i) → RecordLine n k s at r i
   record-found r i h e = go (read_line n (drop at s)) refl e
     where
-      go : (g : Got TextLine) → read_line n (drop at s) ≡ g → read_of k s at g ≡ Found r i → RecordLine n k s at r i
+      go : (g : Got TextLine) → read_line n (drop at s) ≡ g → read_of k s at g ≡ Some (r, i) → RecordLine n k s at r i
       go (got l rest) q f =
           let p = print-of-read n (drop at s) q in
-          let here : length s - length rest ≡ i = found-place f in
+          let same = found f in
+          let here : length s - length rest ≡ i = ap (λ x. x.1) same in
           let long : length s ≡ at + (length (line l) + (1 + length rest)) =
           omega (arith, length-drop at s, ap length p.1, length-append (line l) (10 ∷ rest)) in
           let u = line l ++ (10 ∷ []) in
           let place : i ≡ at + length u = omega (arith, length-append (line l) (10 ∷ [])) in
           let rests : drop i s ≡ rest = ap (λ x. drop x s) place ∙ drop-after s u rest at (p.1 ∙ sym (append_assoc (line l) (10 ∷ []) rest)) in
-          let same = found-record f in
           record {
             text = l;
             form = p.0;
             reads = rw rests q;
             printed = rw rests p.1;
-            number = ap (λ x. x.line) (sym same);
-            kind = ap (λ x. x.kind) (sym same) ∙ rw here;
+            number = ap (λ x. x.0.line) (sym same);
+            kind = ap (λ x. x.0.kind) (sym same) ∙ rw here;
             after = omega arith;
             inside = omega arith;
           }
-      go bad q f = absurd (bad-not-found f)
+      go bad q f = absurd (none-not-found f)
 
-  pub record-bad : read_at n k s at ≡ Bad → read_line n (drop at s) ≡ bad
-  record-bad e = go (read_line n (drop at s)) refl e
+  pub record-none : read_at n k s at ≡ None → read_line n (drop at s) ≡ bad
+  record-none e = go (read_line n (drop at s)) refl e
     where
-      go : (g : Got TextLine) → read_line n (drop at s) ≡ g → read_of k s at g ≡ Bad → read_line n (drop at s) ≡ bad
-      go (got l rest) q f = absurd (bad-not-found (sym f))
+      go : (g : Got TextLine) → read_line n (drop at s) ≡ g → read_of k s at g ≡ None → read_line n (drop at s) ≡ bad
+      go (got l rest) q f = absurd (none-not-found (sym f))
       go bad q f = q
 
   -- The fields of a line stand after its word.

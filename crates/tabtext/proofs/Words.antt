@@ -1,20 +1,26 @@
 -- Bytes, words and order words: printing and reading undo each other.
 --   read-of-byte, byte-of-read     one byte
 --   read-of-word, word-of-read     a word
+--   word-said                      whether a word stands at a place
 --   Letter                         the letters a to z
 --   read-of-order, order-of-read   an order word: 1 to 8 letters
-use Prim.Native.Nat.{ℕ, zero, suc, ◌≤◌}
+use Prim.Native.Nat.{ℕ, zero, suc, ◌+◌, ◌-◌, ◌≤◌}
 use mathlib.Core.Path.{◌≡◌, refl, ap, sym, ◌∙◌}
 use mathlib.Core.List.{[], ◌∷◌, ◌++◌, append_assoc, append-nil}
 use mathlib.Core.Bool.{Bool, true, false}
 use native.Mathlib.Omega.{arith}
 use lib.Dec.{eqb}
-use lib.ListN.{length, drop}
+use lib.ListN.{length, take, drop, length-append, length-drop}
+use lib.Seq.{drop-drop, take-length}
 use borrow.Author.Tests.{eq-eqb, eqb-true, le-leb}
+use Rattle.std.specs.List.{starts_with as begins_with}
+use Rattle.std.proofs.lemmas.Bool.Decides.{Decides-eqb}
+use Rattle.std.proofs.lemmas.Slice.Eq.{starts_is}
 use Rattle.lists.specs.Lists.{Bytes, Each}
-use Rattle.tabtext.specs.Readers.{got, bad, pure, first, starts_with, read_byte, read_word, letter, more_letters, read_order}
+use Rattle.tabtext.specs.Answers.{WordAt, WordSays}
+use Rattle.tabtext.specs.Readers.{Got, got, bad, pure, first, starts_with, read_byte, read_word, letter, more_letters, read_order}
 use Rattle.tabtext.proofs.Steps.{got-value, got-rest, got-not-bad, after-got, after-back}
-use Rattle.tabtext.proofs.Places.{letter-is, letter-first}
+use Rattle.tabtext.proofs.Places.{false-true, letter-is, letter-first}
 
 pub read-of-byte : (b : ℕ) (rest : Bytes) → read_byte b (b ∷ rest) ≡ got tt rest
 unfolding read_byte starts_with
@@ -40,6 +46,24 @@ word-of-read [] s e = got-rest e
 word-of-read (b ∷ w) s e =
     let r = after-back _ _ _ e in
     byte-of-read b s r.front ∙ ap (λ x. b ∷ x) (word-of-read w r.between r.back)
+
+-- What `starts_with` says of the bytes from a place on.
+module _ (w s : Bytes) (at : ℕ) (within : at ≤ length s) where
+  word-begins : drop at s ≡ w ++ drop (length w) (drop at s) → WordAt w s at
+  word-begins e =
+      let long : length s - at ≡ length w + length (drop (length w) (drop at s)) = sym (length-drop at s) ∙ ap length e ∙ length-append w _ in
+      record { reads = ap (read_word w) e ∙ read-of-word w _ ∙ ap (got tt) (drop-drop (length w) at s); inside = omega (arith, long) }
+
+  pub word-said : (b : Bool) → b ≡ begins_with eqb (take (length s - at) (drop at s)) w → WordSays w s at b
+  word-said b e = go b (starts_is Decides-eqb (drop at s) w b (e ∙ rw (← length-drop at s, take-length (drop at s))))
+    where
+      go : (b : Bool) → (b ≡ true → drop at s ≡ w ++ drop (length w) (drop at s)) × ((rest : Bytes) → drop at s ≡ w ++ rest → b ≡ true) → WordSays w s at b
+      go true d = word-begins (d.0 refl)
+      go false d = other (read_word w (drop at s)) refl
+        where
+          other : (g : Got Unit) → read_word w (drop at s) ≡ g → read_word w (drop at s) ≡ bad
+          other (got v rest) q = absurd (false-true (d.1 rest (word-of-read w (drop at s) q)))
+          other bad q = q
 
 abbrev pub Letter : ℕ → Type 0
 Letter b = (97 ≤ b) × (b ≤ 122)

@@ -1,62 +1,40 @@
 // Numbers of 1 to 5 digits with no leading zero, except 0 itself: read and printed.
-ghost use Rattle.std.specs.Prelude.{◌≡◌, ◌≤◌, length, drop};
+ghost use Rattle.std.specs.Prelude.{◌≡◌, ◌≤◌, length};
 ghost use Rattle.tabtext.specs.Text.{Number as Small, decimal};
-ghost use Rattle.tabtext.specs.Readers.{first, digit, read_number};
-ghost use Rattle.tabtext.specs.Answers.{NumberSays};
+ghost use Rattle.tabtext.specs.Readers.{read_number};
+ghost use Rattle.tabtext.specs.Answers.{DigitSays, NumberSays};
 ghost use Rattle.tabtext.specs.Written.{Room, Written};
 
-// A number and the place after it, or bad.
-#[derive(Clone, Copy)]
-pub enum NumberRead {
-    Value(u32, usize),
-    Bad,
-}
-
-// The byte at a place; 0 past the end.
-pub fn byte_at(text: &[u8], i: usize) -> u8
-    ensures { result ≡ first (drop i text.now) }
+// The value of the digit at a place, where one stands.
+fn digit_at(text: &[u8], i: usize) -> Option<u32>
+    ensures { DigitSays text.now i result }
 {
-    if i < text.len() { text[i] } else { 0 }
-}
-
-// The value of the digit at a place; 10 where there is none.
-fn digit_at(text: &[u8], i: usize) -> u32
-    ensures { result ≡ digit (drop i text.now) }
-{
-    let b = byte_at(text, i);
-    if b'0' <= b {
-        if b <= b'9' {
-            return (b - b'0') as u32;
-        }
+    let b = *text.get(i)?;
+    if b.is_ascii_digit() {
+        Some((b - b'0') as u32)
+    } else {
+        None
     }
-    10
 }
 
-// A digit that is not 0 and at most four more, or 0 alone.
-pub fn read_number(text: &[u8], at: usize) -> NumberRead
+// A digit that is not 0 and at most four more, or 0 alone: its value, and the place after it.
+pub fn read_number(text: &[u8], at: usize) -> Option<(u32, usize)>
     ensures { NumberSays read_number text.now at result }
 {
-    let d = digit_at(text, at);
-    if 9 < d {
-        return NumberRead::Bad;
-    }
+    let d = digit_at(text, at)?;
     let zero = d == 0;
     if zero {
-        return NumberRead::Value(0, at + 1);
+        return Some((0, at + 1));
     }
+    let end = at + 5;
     let mut v = d;
-    let mut i = at + 1;
-    let mut k: usize = 4;
-    while 0 < k {
-        let e = digit_at(text, i);
-        if 9 < e {
-            return NumberRead::Value(v, i);
-        }
+    for i in at + 1..end {
+        let Some(e) = digit_at(text, i) else {
+            return Some((v, i));
+        };
         v = v * 10 + e;
-        i += 1;
-        k -= 1;
     }
-    NumberRead::Value(v, i)
+    Some((v, end))
 }
 
 // How many bytes a number is printed in.

@@ -2,11 +2,10 @@
 ghost use Rattle.std.specs.Prelude.{◌≡◌, ◌≤◌, length, drop};
 ghost use Rattle.monomial.specs.Sizes.{most_variables};
 ghost use Rattle.tabtext.specs.Text.{bytes};
-ghost use Rattle.tabtext.specs.Readers.{letter, read_order, read_last, read_header, read_generator, read_standard, read_points, read_end};
-ghost use Rattle.tabtext.specs.Answers.{NumberSays, NextSays, WordAt, WordSays, read_of, read_at};
+ghost use Rattle.tabtext.specs.Readers.{letter, read_order, read_last, read_header, read_generator, read_standard, read_line};
+ghost use Rattle.tabtext.specs.Answers.{NumberSays, NextSays, WordAt, WordSays, kind_read, read_at};
 
-use crate::number::{NumberRead, byte_at};
-use crate::terms::{Next, byte_is, read_byte, read_field, read_rows, read_terms};
+use crate::terms::{byte_is, read_byte, read_field, read_rows, read_terms};
 
 // The bytes of a text from start up to end.
 #[derive(Clone, Copy)]
@@ -40,160 +39,111 @@ pub struct Record {
     pub kind: Kind,
 }
 
-// A record and the place after its LF, or bad.
-#[derive(Clone, Copy)]
-pub enum Read {
-    Found(Record, usize),
-    Bad,
-}
-
 // Whether a word stands at a place.
 pub fn word_at(text: &[u8], at: usize, word: &[u8]) -> bool
     requires { at ≤ length text.now }
     ensures { WordSays word.now text.now at result }
 {
-    let mut j: usize = 0;
-    while j < word.len() {
-        if !byte_is(text, at + j, word[j]) {
-            return false;
-        }
-        j += 1;
-    }
-    true
+    text[at..].starts_with(word)
 }
 
 // Whether a letter a to z stands at a place.
 fn letter_at(text: &[u8], i: usize) -> bool
     ensures { result ≡ letter (drop i text.now) }
 {
-    let b = byte_at(text, i);
-    if b'a' <= b { b <= b'z' } else { false }
+    text.get(i).is_some_and(|b| b.is_ascii_lowercase())
 }
 
-// An order word: a letter and at most seven more.
-fn read_order(text: &[u8], at: usize) -> Next
+// An order word: a letter and at most seven more. It gives the place after it.
+fn read_order(text: &[u8], at: usize) -> Option<usize>
     ensures { NextSays read_order text.now at result }
 {
     if !letter_at(text, at) {
-        return Next::Bad;
+        return None;
     }
-    let mut i = at + 1;
-    let mut k: usize = 7;
-    while 0 < k {
+    let end = at + 8;
+    for i in at + 1..end {
         if !letter_at(text, i) {
-            return Next::At(i);
+            return Some(i);
         }
-        i += 1;
-        k -= 1;
     }
-    Next::At(i)
+    Some(end)
 }
 
 // The last field of a line: a tab, a number and LF.
-fn read_last(text: &[u8], at: usize) -> NumberRead
+fn read_last(text: &[u8], at: usize) -> Option<(u32, usize)>
     ensures { NumberSays read_last text.now at result }
 {
-    let NumberRead::Value(v, i) = read_field(text, at, b'\t') else {
-        return NumberRead::Bad;
-    };
-    let Next::At(next) = read_byte(text, i, b'\n') else {
-        return NumberRead::Bad;
-    };
-    NumberRead::Value(v, next)
+    let (v, i) = read_field(text, at, b'\t')?;
+    let next = read_byte(text, i, b'\n')?;
+    Some((v, next))
 }
 
-// A basis line. This reader and the four after it are called where the word of their kind stands.
-fn read_header(text: &[u8], at: usize, line: usize) -> Read
+// A basis line: its kind, and the place after its LF. This reader and the two after it are called where the word of their kind stands.
+fn read_header(text: &[u8], at: usize) -> Option<(Kind, usize)>
     requires { WordAt (bytes "basis\t") text.now at }
-    ensures { result ≡ read_of line text.now at (read_header (drop at text.now)) }
+    ensures { result ≡ kind_read text.now at (read_header (drop at text.now)) }
 {
     let start = at + 6;
-    let Next::At(end) = read_order(text, start) else {
-        return Read::Bad;
-    };
-    let NumberRead::Value(p, i) = read_field(text, end, b'\t') else {
-        return Read::Bad;
-    };
-    let NumberRead::Value(n, next) = read_last(text, i) else {
-        return Read::Bad;
-    };
+    let end = read_order(text, start)?;
+    let (p, i) = read_field(text, end, b'\t')?;
+    let (n, next) = read_last(text, i)?;
     let order = Span { start, end };
-    let kind = Kind::Header(Header { order, p, n });
-    Read::Found(Record { line, kind }, next)
+    Some((Kind::Header(Header { order, p, n }), next))
 }
 
 // A poly line.
-fn read_generator(text: &[u8], at: usize, n: usize, line: usize) -> Read
+fn read_generator(text: &[u8], at: usize, n: usize) -> Option<(Kind, usize)>
     requires { WordAt (bytes "poly") text.now at × (n ≤ most_variables) }
-    ensures { result ≡ read_of line text.now at (read_generator n (drop at text.now)) }
+    ensures { result ≡ kind_read text.now at (read_generator n (drop at text.now)) }
 {
     let start = at + 4;
     if !byte_is(text, start, b'\t') {
-        return Read::Bad;
+        return None;
     }
-    let Next::At(next) = read_terms(text, start, n) else {
-        return Read::Bad;
-    };
+    let next = read_terms(text, start, n)?;
     let end = next - 1;
-    let kind = Kind::Generator(Span { start, end });
-    Read::Found(Record { line, kind }, next)
+    Some((Kind::Generator(Span { start, end }), next))
 }
 
 // A stairs line.
-fn read_standard(text: &[u8], at: usize, n: usize, line: usize) -> Read
+fn read_standard(text: &[u8], at: usize, n: usize) -> Option<(Kind, usize)>
     requires { WordAt (bytes "stairs") text.now at × (n ≤ most_variables) }
-    ensures { result ≡ read_of line text.now at (read_standard n (drop at text.now)) }
+    ensures { result ≡ kind_read text.now at (read_standard n (drop at text.now)) }
 {
     let start = at + 6;
-    let Next::At(next) = read_rows(text, start, n) else {
-        return Read::Bad;
-    };
+    let next = read_rows(text, start, n)?;
     let end = next - 1;
-    let kind = Kind::Standard(Span { start, end });
-    Read::Found(Record { line, kind }, next)
+    Some((Kind::Standard(Span { start, end }), next))
 }
 
-// A runs line.
-fn read_points(text: &[u8], at: usize, line: usize) -> Read
-    requires { WordAt (bytes "runs") text.now at }
-    ensures { result ≡ read_of line text.now at (read_points (drop at text.now)) }
+// The kind of the line at a place, in n variables. Its first word decides how it is read; a runs line and an end line have a number after it.
+fn read_kind(text: &[u8], at: usize, n: usize) -> Option<(Kind, usize)>
+    requires { (at ≤ length text.now) × (n ≤ most_variables) }
+    ensures { result ≡ kind_read text.now at (read_line n (drop at text.now)) }
 {
-    let NumberRead::Value(v, next) = read_last(text, at + 4) else {
-        return Read::Bad;
-    };
-    let kind = Kind::Points(v);
-    Read::Found(Record { line, kind }, next)
-}
-
-// An end line.
-fn read_end(text: &[u8], at: usize, line: usize) -> Read
-    requires { WordAt (bytes "end") text.now at }
-    ensures { result ≡ read_of line text.now at (read_end (drop at text.now)) }
-{
-    let NumberRead::Value(v, next) = read_last(text, at + 3) else {
-        return Read::Bad;
-    };
-    let kind = Kind::End(v);
-    Read::Found(Record { line, kind }, next)
+    if word_at(text, at, b"basis\t") {
+        read_header(text, at)
+    } else if word_at(text, at, b"poly") {
+        read_generator(text, at, n)
+    } else if word_at(text, at, b"stairs") {
+        read_standard(text, at, n)
+    } else if word_at(text, at, b"runs") {
+        let (points, next) = read_last(text, at + 4)?;
+        Some((Kind::Points(points), next))
+    } else if word_at(text, at, b"end") {
+        let (lines, next) = read_last(text, at + 3)?;
+        Some((Kind::End(lines), next))
+    } else {
+        None
+    }
 }
 
 // The line at a place, in n variables: its record, with the line's number, and the place after its LF.
-// Its first word decides which reader reads it.
-pub fn read_record(text: &[u8], at: usize, n: usize, line: usize) -> Read
+pub fn read_record(text: &[u8], at: usize, n: usize, line: usize) -> Option<(Record, usize)>
     requires { (at ≤ length text.now) × (n ≤ most_variables) }
     ensures { result ≡ read_at n line text.now at }
 {
-    if word_at(text, at, b"basis\t") {
-        read_header(text, at, line)
-    } else if word_at(text, at, b"poly") {
-        read_generator(text, at, n, line)
-    } else if word_at(text, at, b"stairs") {
-        read_standard(text, at, n, line)
-    } else if word_at(text, at, b"runs") {
-        read_points(text, at, line)
-    } else if word_at(text, at, b"end") {
-        read_end(text, at, line)
-    } else {
-        Read::Bad
-    }
+    let (kind, next) = read_kind(text, at, n)?;
+    Some((Record { line, kind }, next))
 }

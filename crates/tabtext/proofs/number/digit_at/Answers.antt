@@ -1,13 +1,13 @@
 -- `number::digit_at` meets its contract.
-use mathlib.Core.Path.{sym}
-use Rattle.tabtext.proofs.Places.{digit-is, digit-above, digit-below}
+use native.Mathlib.Omega.{arith}
+use Rattle.tabtext.proofs.Places.{digit-found, digit-other, digit-past}
 use Rattle.tabtext.proofs.number.digit_at.Goals as goal
 
-pub returns-then-b-le57 : goal.returns-then-b-le57
-returns-then-b-le57 c = sym (digit-is _ _ c.byte_at-b.ensures c.if-b-ge48.true c.if-b-le57.true)
+pub returns-in_err-b : goal.returns-in_err-b
+returns-in_err-b c = let a = c.args in rw c.from_residual.ensures (omega (arith, digit-past a.text.now a.i c.in_err-b.ensures.lookup.3))
 
-pub returns-else-b-le57 : goal.returns-else-b-le57
-returns-else-b-le57 c = sym (digit-above _ _ c.byte_at-b.ensures c.if-b-le57.false)
+pub returns-then-is_ascii_digit : goal.returns-then-is_ascii_digit
+returns-then-is_ascii_digit c = digit-found _ _ c.in_ok-b.field-0 c.in_ok-b.ensures.lookup c.if-is_ascii_digit.ensures.cases
 
-pub returns-else-b-ge48 : goal.returns-else-b-ge48
-returns-else-b-ge48 c = sym (digit-below _ _ c.byte_at-b.ensures c.if-b-ge48.false)
+pub returns-else-is_ascii_digit : goal.returns-else-is_ascii_digit
+returns-else-is_ascii_digit c = digit-other _ _ c.in_ok-b.field-0 c.in_ok-b.ensures.lookup c.if-is_ascii_digit.ensures.cases

@@ -4,46 +4,47 @@ use native.Mathlib.Omega.{arith}
 use lib.ListN.{length}
 use Rattle.tabtext.proofs.Places.{digit-within}
 use Rattle.tabtext.proofs.NumberLoop.{bad-first, zero-first, start, small, turn, stop, full}
-use Rattle.tabtext.proofs.number.read_number.Goals.{Else-d-gt9}
+use Rattle.tabtext.proofs.number.read_number.Goals.{In_ok-d}
 use Rattle.tabtext.proofs.number.read_number.Goals as goal
 
-pub returns-then-d-gt9 : goal.returns-then-d-gt9
-returns-then-d-gt9 c = bad-first _ _ c.digit_at-d.ensures c.if-d-gt9.true
+pub returns-in_err-d : goal.returns-in_err-d
+returns-in_err-d c = rw c.from_residual.ensures (bad-first _ c.in_err-d.ensures)
 
 -- A digit stands at the place, which is within the text.
-within : (c : Else-d-gt9) →
+within : (c : In_ok-d) →
     let a = c.args in
     a.at < length a.text.now
 within c =
     let a = c.args in
-    digit-within a.text.now a.at c.digit_at-d.ensures c.if-d-gt9.false
+    let digit = c.in_ok-d.ensures in
+    digit-within a.text.now a.at digit.0 digit.1
 
 pub overflow_add-result : goal.overflow_add-result
-overflow_add-result c = omega (arith, within (goal.at.overflow_add-result c).Else-d-gt9)
+overflow_add-result c = omega (arith, within (goal.at.overflow_add-result c).In_ok-d)
 
 pub returns-then-zero : goal.returns-then-zero
-returns-then-zero c =
-    let a = c.args in
-    zero-first a.text.now a.at _ c.digit_at-d.ensures c.if-zero.true
+returns-then-zero c = zero-first _ _ _ c.in_ok-d.ensures c.if-zero.true
 
-pub overflow_add-i : goal.overflow_add-i
-overflow_add-i c = omega (arith, within (goal.at.overflow_add-i c).Else-d-gt9)
+pub overflow_add-end : goal.overflow_add-end
+overflow_add-end c = omega (arith, within (goal.at.overflow_add-end c).In_ok-d)
 
-pub loop-k-init : goal.loop-k-init
-loop-k-init c = start _ _ _ c.digit_at-d.ensures c.if-d-gt9.false c.if-zero.false
+pub overflow_step-i : goal.overflow_step-i
+overflow_step-i c = omega (arith, within (goal.at.overflow_step-i c).In_ok-d)
 
-pub returns-then-e-gt9 : goal.returns-then-e-gt9
-returns-then-e-gt9 c = stop _ _ _ _ _ c.loop-k.invariant _ c.digit_at-e.ensures c.if-e-gt9.true
+pub loop-i-init : goal.loop-i-init
+loop-i-init c = start _ _ _ c.in_ok-d.ensures c.if-zero.false
+
+pub returns-in_default : goal.returns-in_default
+returns-in_default c = stop _ _ _ _ c.loop-i.invariant c.in_default.ensures
 
 pub overflow_mul-v : goal.overflow_mul-v
-overflow_mul-v c = omega (arith, small _ _ _ _ _ c.loop-k.invariant)
+overflow_mul-v c = omega (arith, small _ _ _ _ c.loop-i.invariant)
 
 pub overflow_add-v : goal.overflow_add-v
-overflow_add-v c = omega (arith, small _ _ _ _ _ c.loop-k.invariant)
+overflow_add-v c = omega (arith, small _ _ _ _ c.loop-i.invariant, c.in-Some.ensures)
 
-pub loop-k-preserved : goal.loop-k-preserved
-loop-k-preserved c =
-    turn _ _ _ _ _ c.loop-k.invariant _ c.loop-k-test.true c.digit_at-e.ensures c.if-e-gt9.false
+pub loop-i-preserved : goal.loop-i-preserved
+loop-i-preserved c = turn _ _ _ _ c.loop-i.invariant _ c.loop-i-test.true c.in-Some.ensures
 
 pub returns : goal.returns
-returns c = full _ _ _ _ _ c.loop-k.invariant c.loop-k-test.false
+returns c = full _ _ _ _ c.loop-i.invariant c.loop-i-test.false

@@ -2,8 +2,5 @@
 use Rattle.tabtext.proofs.NumberLoop.{DigitsInv}
 use Rattle.tabtext.proofs.number.read_number.Given as goal
 
-abbrev pub invariant-loop-k : goal.invariant-loop-k
-invariant-loop-k l = DigitsInv l.text l.at l.v l.i l.k
-
-abbrev pub decreases-loop-k : goal.decreases-loop-k
-decreases-loop-k l = l.k
+abbrev pub invariant-loop-i : goal.invariant-loop-i
+invariant-loop-i l = DigitsInv l.text l.at l.v l.i

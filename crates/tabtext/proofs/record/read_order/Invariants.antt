@@ -2,8 +2,5 @@
 use Rattle.tabtext.proofs.OrderLoop.{LettersInv}
 use Rattle.tabtext.proofs.record.read_order.Given as goal
 
-abbrev pub invariant-loop-k : goal.invariant-loop-k
-invariant-loop-k l = LettersInv l.text l.at l.i l.k
-
-abbrev pub decreases-loop-k : goal.decreases-loop-k
-decreases-loop-k l = l.k
+abbrev pub invariant-loop-i : goal.invariant-loop-i
+invariant-loop-i l = LettersInv l.text l.at l.i

@@ -1,10 +1,7 @@
 -- `terms::byte_is` meets its contract.
-use mathlib.Core.Path.{sym}
-use Rattle.tabtext.proofs.Places.{starts-at, starts-past}
+use mathlib.Core.Path.{◌∙◌}
+use Rattle.tabtext.proofs.Places.{starts-found}
 use Rattle.tabtext.proofs.terms.byte_is.Goals as goal
 
-pub returns-then-i-text : goal.returns-then-i-text
-returns-then-i-text c = sym (starts-at _ _ _ c.if-i-text.true)
-
-pub returns-else-i-text : goal.returns-else-i-text
-returns-else-i-text c = sym (starts-past _ _ _ c.if-i-text.false)
+pub returns : goal.returns
+returns c = c.eq.ensures ∙ starts-found _ _ _ _ c.get.ensures.lookup

@@ -5,8 +5,8 @@ use Rattle.tabtext.specs.Readers.{read_row}
 use Rattle.tabtext.proofs.FieldLoop.{FieldsInv}
 use Rattle.tabtext.proofs.terms.read_rows.Given as goal
 
-abbrev pub invariant-loop-row : goal.invariant-loop-row
-invariant-loop-row l = FieldsInv (read_row l.n 9) l.text l.at l.i
+abbrev pub invariant-loop-i : goal.invariant-loop-i
+invariant-loop-i l = FieldsInv (read_row l.n 9) l.text l.at l.i
 
-abbrev pub decreases-loop-row : goal.decreases-loop-row
-decreases-loop-row l = length l.text - l.i
+abbrev pub decreases-loop-i : goal.decreases-loop-i
+decreases-loop-i l = length l.text - l.i

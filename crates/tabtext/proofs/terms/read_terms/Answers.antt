@@ -6,33 +6,31 @@ use Rattle.tabtext.proofs.Places.{starts-within}
 use Rattle.tabtext.proofs.FieldLoop.{tab-got, tab-reading, start, turn, no_field, stop}
 use Rattle.tabtext.proofs.terms.read_terms.Goals as goal
 
-pub loop-term-init : goal.loop-term-init
-loop-term-init c = start _ _ _
+pub loop-i-init : goal.loop-i-init
+loop-i-init c = start _ _ _
 
 pub overflow_add-i : goal.overflow_add-i
 overflow_add-i c =
-    omega (arith, starts-within _ c.args.text.now c.loop-term.i (sym c.byte_is.ensures ∙ c.loop-term-test.true))
+    omega (arith, starts-within _ c.args.text.now c.loop-i.i (sym c.byte_is.ensures ∙ c.loop-i-test.true))
 
-pub returns-in_default : goal.returns-in_default
+pub returns-in_err-next : goal.returns-in_err-next
 unfolding read_terms
-returns-in_default c =
-    let tab = sym c.byte_is.ensures ∙ c.loop-term-test.true in
-    let term = rw c.in_default.is at c.read_term-term.ensures in
-    no_field _ _ _ _ c.loop-term.invariant tab (tab-got _ c.args.text.now c.loop-term.i tab ∙ term)
+returns-in_err-next c =
+    let tab = sym c.byte_is.ensures ∙ c.loop-i-test.true in
+    rw c.from_residual.ensures (no_field _ _ _ _ c.loop-i.invariant tab (tab-got _ c.args.text.now c.loop-i.i tab ∙ c.in_err-next.ensures))
 
-pub loop-term-smaller : goal.loop-term-smaller
-loop-term-smaller c =
-    let term = rw c.in-At.is at c.read_term-term.ensures in
+pub loop-i-smaller : goal.loop-i-smaller
+loop-i-smaller c =
+    let term = c.in_ok-next.ensures in
     omega (arith, term.after, term.inside)
 
-pub loop-term-preserved : goal.loop-term-preserved
-loop-term-preserved c =
-    let tab = sym c.byte_is.ensures ∙ c.loop-term-test.true in
-    let term = rw c.in-At.is at c.read_term-term.ensures in
-    turn _ _ _ _ c.loop-term.invariant tab (tab-reading _ _ _ tab term)
+pub loop-i-preserved : goal.loop-i-preserved
+loop-i-preserved c =
+    let tab = sym c.byte_is.ensures ∙ c.loop-i-test.true in
+    turn _ _ _ _ c.loop-i.invariant tab (tab-reading _ _ _ tab c.in_ok-next.ensures)
 
 pub returns : goal.returns
 unfolding read_terms
 returns c =
-    let no-tab = sym c.byte_is.ensures ∙ c.loop-term-test.false in
-    stop _ _ _ _ c.loop-term.invariant c.read_byte.result no-tab c.read_byte.ensures
+    let no-tab = sym c.byte_is.ensures ∙ c.loop-i-test.false in
+    stop _ _ _ _ c.loop-i.invariant c.read_byte.result no-tab c.read_byte.ensures

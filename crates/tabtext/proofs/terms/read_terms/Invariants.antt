@@ -5,8 +5,8 @@ use Rattle.tabtext.specs.Readers.{◌>>◌, read_byte, read_term}
 use Rattle.tabtext.proofs.FieldLoop.{FieldsInv}
 use Rattle.tabtext.proofs.terms.read_terms.Given as goal
 
-abbrev pub invariant-loop-term : goal.invariant-loop-term
-invariant-loop-term l = FieldsInv (read_byte 9 >> read_term l.n) l.text l.at l.i
+abbrev pub invariant-loop-i : goal.invariant-loop-i
+invariant-loop-i l = FieldsInv (read_byte 9 >> read_term l.n) l.text l.at l.i
 
-abbrev pub decreases-loop-term : goal.decreases-loop-term
-decreases-loop-term l = length l.text - l.i
+abbrev pub decreases-loop-i : goal.decreases-loop-i
+decreases-loop-i l = length l.text - l.i
