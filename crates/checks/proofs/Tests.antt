@@ -23,8 +23,8 @@ use Rattle.monomial.specs.Sizes.{most_variables, VariableCount}
 use Rattle.monomial.specs.Rows.{Row}
 use Rattle.monomial.specs.Orders.{grevlex}
 use Rattle.monomial.specs.Ordering.{Grevlex}
-use Rattle.monomial.specs.declared.order.Comparison.{Comparison}
-use Rattle.monomial.specs.declared.order.Comparison.TheVariants.{Less, Equal, Greater}
+use Rattle.std.specs.declared.cmp.Ordering.{Ordering}
+use Rattle.std.specs.declared.cmp.Ordering.TheVariants.{Less, Equal, Greater}
 
 pub data Decides (P : Type 0) : Bool → Type 0 where
   holds : P → Decides P true
@@ -116,7 +116,7 @@ pub smaller-decides : (n : ℕ) (a b : Row n) → Decides (Grevlex n a b) (small
 unfolding smaller
 smaller-decides n a b = less (grevlex n a b)
   where
-    less : (c : Comparison) → Decides (c ≡ Less) (elim c as (λ _. Bool) [ Less ↦ true | Equal ↦ false | Greater ↦ false ])
+    less : (c : Ordering) → Decides (c ≡ Less) (elim c as (λ _. Bool) [ Less ↦ true | Equal ↦ false | Greater ↦ false ])
     less Less = holds refl
     less Equal = fails (λ e. let z : ◌≡◌ {A = ℕ} 0 1 = cc in omega arith)
     less Greater = fails (λ e. let z : ◌≡◌ {A = ℕ} 0 1 = cc in omega arith)

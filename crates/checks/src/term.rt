@@ -10,8 +10,8 @@ ghost use Rattle.checks.specs.Checks.{check_term, check_first, check_next};
 
 use answer::{Check, Refusal};
 use lines::sizes::MAX_TERMS;
-use monomial::order::Comparison;
 use monomial::{Exponent, MAX_EXPONENT, MAX_VARIABLES, Monomial};
+use std::cmp::Ordering;
 
 // Whether no exponent is over 32.
 fn small_exponents(exponents: [u32; MAX_VARIABLES], n: usize) -> bool
@@ -91,7 +91,7 @@ pub fn check_next(
         return check;
     };
     match monomial_of(exponents, n).compare_grevlex(before, n) {
-        Comparison::Less => Check::Pass,
+        Ordering::Less => Check::Pass,
         _ => Check::Refuse(Refusal::TermsNotFalling),
     }
 }

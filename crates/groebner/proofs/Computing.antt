@@ -27,8 +27,8 @@ use Rattle.monomial.specs.Rows.{Row}
 use Rattle.monomial.specs.Quotients.{quotient, divides}
 use Rattle.monomial.specs.Orders.{lex, grevlex}
 use Rattle.monomial.specs.Ordering.{Monomials, Divides, Lcm, monomials, Lex, Grevlex}
-use Rattle.monomial.specs.declared.order.Comparison.{Comparison}
-use Rattle.monomial.specs.declared.order.Comparison.TheVariants.{Less, Equal, Greater}
+use Rattle.std.specs.declared.cmp.Ordering.{Ordering}
+use Rattle.std.specs.declared.cmp.Ordering.TheVariants.{Less, Equal, Greater}
 use Rattle.monomial.proofs.Products.{divides-iff, product-quotient}
 use Rattle.groebner.specs.Polynomials.{Poly, All, all_nil, all_cons, Polynomial, relabel, scale, negate, minus, shift, expand, times, coef, Same, IsSum, IsProduct}
 use Rattle.groebner.specs.Lines.{Line, polynomial, Falling, Lines, Reducible, Earliest, Rising}
@@ -230,12 +230,12 @@ divides? n a b = at (divides n a b) refl
     at false e = no (λ d. false≢true (sym e ∙ (divides-iff n a b).1 d))
 
 -- What a three-way comparison says.
-Smaller : Comparison → Type 0
+Smaller : Ordering → Type 0
 Smaller Less = Unit
 Smaller Equal = ⊥
 Smaller Greater = ⊥
 
-unfoldable pub less? : (c : Comparison) → Dec (c ≡ Less)
+unfoldable pub less? : (c : Ordering) → Dec (c ≡ Less)
 unfolding Smaller
 less? Less = yes refl
 less? Equal = no (λ e. subst Smaller (sym e) tt)

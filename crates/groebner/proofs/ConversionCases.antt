@@ -14,7 +14,7 @@ use Rattle.residue.specs.Field.{modulo}
 use Rattle.monomial.specs.Rows.{exponent, one}
 use Rattle.monomial.specs.Orders.{compared, lex, variables}
 use Rattle.monomial.specs.Ordering.{Divides, monomials}
-use Rattle.monomial.specs.declared.order.Comparison.TheVariants.{Less, Equal}
+use Rattle.std.specs.declared.cmp.Ordering.TheVariants.{Less, Equal}
 use Rattle.monomial.proofs.Comparisons.{then, then_less, equal-not-less}
 use Rattle.monomial.proofs.Products.{divisible-at}
 use Rattle.monomial.proofs.LexOrder.{lex-order, variables-rank}

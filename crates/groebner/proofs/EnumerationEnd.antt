@@ -18,7 +18,7 @@ use Rattle.monomial.specs.Rows.{Row, exponent}
 use Rattle.monomial.specs.Quotients.{is_power}
 use Rattle.monomial.specs.Orders.{lex}
 use Rattle.monomial.specs.Ordering.{Divides, monomials, LessBy}
-use Rattle.monomial.specs.declared.order.Comparison.TheVariants.{Less}
+use Rattle.std.specs.declared.cmp.Ordering.TheVariants.{Less}
 use Rattle.monomial.proofs.Products.{divisible-at, power_at}
 use Rattle.monomial.proofs.LexOrder.{lex-cons-less}
 use Rattle.groebner.specs.Polynomials.{Poly, negate}

@@ -17,7 +17,7 @@ use Rattle.lists.specs.Lists.{◌∈◌, Once}
 use Rattle.monomial.specs.Rows.{Row, exponent}
 use Rattle.monomial.specs.Orders.{lex, variables_from, variables}
 use Rattle.monomial.specs.Ordering.{Divides, monomials, LessBy}
-use Rattle.monomial.specs.declared.order.Comparison.TheVariants.{Less}
+use Rattle.std.specs.declared.cmp.Ordering.TheVariants.{Less}
 use Rattle.monomial.proofs.Products.{divisible-at}
 use Rattle.monomial.proofs.Comparisons.{equal-not-less}
 use Rattle.monomial.proofs.LexOrder.{lex-cons-less, variables-rank}

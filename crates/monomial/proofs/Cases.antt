@@ -8,17 +8,17 @@ use mathlib.Core.List.{List, [], ◌∷◌, map}
 use Prim.Native.Nat.{ℕ}
 use Rattle.monomial.specs.Rows.{Row}
 use Rattle.monomial.specs.Orders.{lex, variables, grevlex}
-use Rattle.monomial.specs.declared.order.Comparison.{Comparison}
-use Rattle.monomial.specs.declared.order.Comparison.TheVariants.{Less, Greater}
+use Rattle.std.specs.declared.cmp.Ordering.{Ordering}
+use Rattle.std.specs.declared.cmp.Ordering.TheVariants.{Less, Greater}
 
 -- Two monomials in n variables; the answers of lex and of grevlex to the first against the second.
 pub record ComparisonCase : Type 0 where
   pub n : ℕ
   pub first : Row n
   pub second : Row n
-  pub answers : Comparison × Comparison
+  pub answers : Ordering × Ordering
 
-abbrev pub compared_as : ComparisonCase → Comparison × Comparison
+abbrev pub compared_as : ComparisonCase → Ordering × Ordering
 compared_as c = (lex c.n (variables c.n) c.first c.second, grevlex c.n c.first c.second)
 
 abbrev pub comparison_cases : List ComparisonCase

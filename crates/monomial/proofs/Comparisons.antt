@@ -2,6 +2,7 @@
 --   compared-less       Less says that the first number is smaller
 --   compared-equal      Equal says that the numbers are equal
 --   compared-greater    Greater says that the first number is larger
+--   compared-cmp        so does the library's comparison, by which exponents are ordered
 --   compared-sum        a number added to both changes no answer
 --   equal-not-less      Equal is not Less
 --   equal-not-greater   Equal is not Greater
@@ -13,7 +14,7 @@
 --   BelowBy f R         smaller by the number f and, where it is equal, by the relation R
 --   below-wf            that is well-founded if R is
 --   comparison-order    a three-way comparison that gives a monomial ordering
-use mathlib.Core.Path.{◌≡◌, refl, ◌∙◌, subst}
+use mathlib.Core.Path.{◌≡◌, refl, sym, ◌∙◌, subst}
 use mathlib.Core.Logic.{◌↔◌, ◌⊎◌, inl, inr, ⊎_elim, ⊎_map}
 use mathlib.Core.WellFounded.{Acc, WellFounded}
 use mathlib.Core.Bool.{Bool, true, false}
@@ -25,13 +26,15 @@ use borrow.Author.Tests.{ltb-true, ltb-false, lt-ltb, le-ltb}
 use Rattle.monomial.specs.Orders.{compared}
 use Rattle.monomial.specs.Ordering.{Monomials, LessBy}
 use Rattle.monomial.proofs.OrderLaws.{MonomialOrder}
-use Rattle.monomial.specs.declared.order.Comparison.{Comparison}
-use Rattle.monomial.specs.declared.order.Comparison.TheVariants.{Less, Equal, Greater}
+use Rattle.std.specs.declared.cmp.Ordering.{Ordering}
+use Rattle.std.specs.Ordering.{MatchOrdering, nat_cmp}
+use Rattle.std.specs.Cmp.{nat_cmp_is}
+use Rattle.std.specs.declared.cmp.Ordering.TheVariants.{Less, Equal, Greater}
 use Rattle.monomial.proofs.AnyOrder.{transitive-of}
 
 -- What an answer says of the two numbers.
-abbrev Says : ℕ → ℕ → Comparison → Type 0
-Says x y c = elim c [ Less ↦ x < y | Equal ↦ x ≡ y | Greater ↦ y < x ]
+abbrev Says : ℕ → ℕ → Ordering → Type 0
+Says x y c = MatchOrdering c (x < y) (x ≡ y) (y < x)
 
 compared-says : (x y : ℕ) → Says x y (compared x y)
 unfolding compared
@@ -42,13 +45,13 @@ compared-says x y = go (ltb x y) (ltb y x) refl refl
     go false true p q = ltb-true y x q
     go false false p q = omega (arith, ltb-false x y p, ltb-false y x q)
 
-says-compared : (x y : ℕ) (c : Comparison) → Says x y c → compared x y ≡ c
+says-compared : (x y : ℕ) (c : Ordering) → Says x y c → compared x y ≡ c
 unfolding compared
 says-compared x y Less l = rw (compared, lt-ltb x y l)
 says-compared x y Equal e = rw (compared, le-ltb x y (omega arith), le-ltb y x (omega arith))
 says-compared x y Greater l = rw (compared, le-ltb x y (omega arith), lt-ltb y x l)
 
-compared-iff : (x y : ℕ) (c : Comparison) → (compared x y ≡ c) ↔ Says x y c
+compared-iff : (x y : ℕ) (c : Ordering) → (compared x y ≡ c) ↔ Says x y c
 compared-iff x y c = (λ e. subst (Says x y) e (compared-says x y), says-compared x y c)
 
 module _ (x y : ℕ) where
@@ -61,10 +64,14 @@ module _ (x y : ℕ) where
   pub compared-greater : (compared x y ≡ Greater) ↔ (y < x)
   compared-greater = compared-iff x y Greater
 
+-- The library's comparison of two numbers.
+pub compared-cmp : (x y : ℕ) → nat_cmp x y ≡ compared x y
+compared-cmp x y = sym (nat_cmp_is x y (compared x y) (compared-says x y))
+
 pub compared-sum : (k x y : ℕ) → compared (k + x) (k + y) ≡ compared x y
 compared-sum k x y = says-compared (k + x) (k + y) (compared x y) (add (compared x y) (compared-says x y))
   where
-    add : (c : Comparison) → Says x y c → Says (k + x) (k + y) c
+    add : (c : Ordering) → Says x y c → Says (k + x) (k + y) c
     add Less l = omega arith
     add Equal e = omega arith
     add Greater l = omega arith
@@ -76,14 +83,14 @@ pub equal-not-greater : ¬ (Equal ≡ Greater)
 equal-not-greater e = let l = subst (Says 0 0) e refl in omega arith
 
 -- The answer c, or r where c is Equal.
-abbrev pub then : Comparison → Comparison → Comparison
+abbrev pub then : Ordering → Ordering → Ordering
 then c r = elim c [ Less ↦ Less | Equal ↦ r | Greater ↦ Greater ]
 
-module _ (x y : ℕ) (r : Comparison) where
+module _ (x y : ℕ) (r : Ordering) where
   pub then_less : (then (compared x y) r ≡ Less) ↔ ((x < y) ⊎ ((x ≡ y) × (r ≡ Less)))
   then_less = go (compared x y) (compared-says x y)
     where
-      go : (c : Comparison) → Says x y c → (then c r ≡ Less) ↔ ((x < y) ⊎ ((x ≡ y) × (r ≡ Less)))
+      go : (c : Ordering) → Says x y c → (then c r ≡ Less) ↔ ((x < y) ⊎ ((x ≡ y) × (r ≡ Less)))
       go Less l = (λ e. inl l, λ d. refl)
       go Equal q = (λ e. inr (q, e), ⊎_elim (λ l. absurd (omega arith)) (λ p. p.1))
       go Greater g = (λ e. inl (subst (Says x y) e g), ⊎_elim (λ l. absurd (omega arith)) (λ p. absurd (omega arith)))
@@ -91,7 +98,7 @@ module _ (x y : ℕ) (r : Comparison) where
   pub then-greater : (then (compared x y) r ≡ Greater) ↔ ((y < x) ⊎ ((x ≡ y) × (r ≡ Greater)))
   then-greater = go (compared x y) (compared-says x y)
     where
-      go : (c : Comparison) → Says x y c → (then c r ≡ Greater) ↔ ((y < x) ⊎ ((x ≡ y) × (r ≡ Greater)))
+      go : (c : Ordering) → Says x y c → (then c r ≡ Greater) ↔ ((y < x) ⊎ ((x ≡ y) × (r ≡ Greater)))
       go Less l = (λ e. inl (subst (Says x y) e l), ⊎_elim (λ g. absurd (omega arith)) (λ p. absurd (omega arith)))
       go Equal q = (λ e. inr (q, e), ⊎_elim (λ g. absurd (omega arith)) (λ p. p.1))
       go Greater g = (λ e. inl g, λ d. refl)
@@ -99,7 +106,7 @@ module _ (x y : ℕ) (r : Comparison) where
   pub then_equal : (then (compared x y) r ≡ Equal) ↔ ((x ≡ y) × (r ≡ Equal))
   then_equal = go (compared x y) (compared-says x y)
     where
-      go : (c : Comparison) → Says x y c → (then c r ≡ Equal) ↔ ((x ≡ y) × (r ≡ Equal))
+      go : (c : Ordering) → Says x y c → (then c r ≡ Equal) ↔ ((x ≡ y) × (r ≡ Equal))
       go Less l = (λ e. let q = subst (Says x y) e l in absurd (omega arith), λ p. absurd (omega arith))
       go Equal q = (λ e. (q, e), λ p. p.1)
       go Greater g = (λ e. let q = subst (Says x y) e g in absurd (omega arith), λ p. absurd (omega arith))
@@ -124,7 +131,7 @@ module _ {M : Type 0} (f : M → ℕ) {R : M → M → Type 0} (wf : WellFounded
   below-wf = record { apply = λ a. at-every-value (lt-wf_rel.wf.apply (f a)) a refl }
 
 -- It calls only equals equal, turns round with its arguments, is unchanged by products, and is well-founded.
-module _ {M : Type 0} (𝓜 : Monomials M) (compare : M → M → Comparison) where
+module _ {M : Type 0} (𝓜 : Monomials M) (compare : M → M → Ordering) where
   pub comparison-order : ((a b : M) → compare a b ≡ Equal → a ≡ b) → ((a b : M) → compare a b ≡ Greater → compare b a ≡ Less)
       → ((u a b : M) → compare (𝓜.mul u a) (𝓜.mul u b) ≡ compare a b) → WellFounded (LessBy compare) → MonomialOrder 𝓜 (LessBy compare)
   comparison-order equal flip product wf = record { total = total; trans = transitive-of total wf; mono = λ u {a} {b} l. product u a b ∙ l; wf = wf }
@@ -132,7 +139,7 @@ module _ {M : Type 0} (𝓜 : Monomials M) (compare : M → M → Comparison) wh
       total : (a b : M) → LessBy compare a b ⊎ ((a ≡ b) ⊎ LessBy compare b a)
       total a b = go (compare a b) refl
         where
-          go : (c : Comparison) → compare a b ≡ c → LessBy compare a b ⊎ ((a ≡ b) ⊎ LessBy compare b a)
+          go : (c : Ordering) → compare a b ≡ c → LessBy compare a b ⊎ ((a ≡ b) ⊎ LessBy compare b a)
           go Less e = inl e
           go Equal e = inr (inl (equal a b e))
           go Greater e = inr (inr (flip a b e))

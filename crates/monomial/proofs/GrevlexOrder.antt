@@ -1,6 +1,7 @@
 -- Grevlex is a monomial ordering.
 --   grevlex-then        the degrees decide, and then lex from the last variable on, with a and b exchanged
 --   grevlex-tie         at equal degree that lex decides
+--   grevlex-by          so do the library's comparison of the degrees and what is answered by it
 --   grevlex-less        what Less says
 --   grevlex-greater     what Greater says
 --   grevlex-equal       only equal rows are called equal
@@ -9,7 +10,7 @@
 --   grevlex-order       grevlex is a monomial ordering
 --   Rightmost n k a b   of the first k entries of a - b, the rightmost nonzero one is negative
 --   grevlex-rightmost   the degree is higher, or it is equal and the rightmost nonzero entry of a - b is negative (document 01)
-use mathlib.Core.Path.{◌≡◌, refl, sym, ap}
+use mathlib.Core.Path.{◌≡◌, refl, sym, ◌∙◌, ap}
 use mathlib.Core.Logic.Iff
 use mathlib.Core.Logic.{◌↔◌, ◌⊎◌, inl, inr, ⊎_elim, ⊎_map}
 use mathlib.Core.WellFounded.Acc
@@ -22,9 +23,12 @@ use Rattle.monomial.specs.Rows.{Row, exponent, product, degree}
 use Rattle.monomial.specs.Orders.{compared, lex, backwards, grevlex}
 use Rattle.monomial.specs.Ordering.{monomials, LessBy}
 use Rattle.monomial.proofs.OrderLaws.{MonomialOrder}
-use Rattle.monomial.specs.declared.order.Comparison.TheVariants.{Less, Equal, Greater}
+use Rattle.std.specs.declared.cmp.Ordering.{Ordering}
+use Rattle.std.specs.Ordering.{MatchOrdering, nat_cmp}
+use Rattle.std.proofs.lemmas.Cmp.{by_ranked}
+use Rattle.std.specs.declared.cmp.Ordering.TheVariants.{Less, Equal, Greater}
 use Rattle.monomial.proofs.Products.{degree-product}
-use Rattle.monomial.proofs.Comparisons.{compared-equal, compared-sum, equal-not-less, equal-not-greater, then, then_less, then_equal, then-greater}
+use Rattle.monomial.proofs.Comparisons.{compared-equal, compared-cmp, compared-sum, equal-not-less, equal-not-greater, then, then_less, then_equal, then-greater}
 use Rattle.monomial.proofs.Comparisons.{otherwise, BelowBy, below-wf, comparison-order}
 use Rattle.monomial.proofs.LexOrder.{lex-cons-less, lex-cons-greater, lex-flip, lex-equal, lex-product, backwards-rank}
 
@@ -35,6 +39,14 @@ module _ (n : ℕ) (a b : Row n) where
 
   pub grevlex-tie : degree n a ≡ degree n b → grevlex n a b ≡ lex n (backwards n) b a
   grevlex-tie e = rw (grevlex-then, (compared-equal (degree n a) (degree n b)).1 e)
+
+  -- o is the library's comparison of the degrees.
+  module _ {x y : ℕ} {o : Ordering} (d : x ≡ degree n a) (e : y ≡ degree n b) (of-degrees : o ≡ nat_cmp x y) where
+    decides : then o (lex n (backwards n) b a) ≡ grevlex n a b
+    decides = rw (of-degrees, compared-cmp, d, e) (sym grevlex-then)
+
+    pub grevlex-by : {r : Ordering} {Tie : Type 0} → MatchOrdering o (r ≡ Less) Tie (r ≡ Greater) → (Tie → r ≡ lex n (backwards n) b a) → r ≡ grevlex n a b
+    grevlex-by h tie = by_ranked _ _ _ o h (λ l q. q ∙ rw l at decides) (λ l q. tie q ∙ rw l at decides) (λ l q. q ∙ rw l at decides)
 
   pub grevlex-less : (grevlex n a b ≡ Less) ↔ ((degree n a < degree n b) ⊎ ((degree n a ≡ degree n b) × (lex n (backwards n) b a ≡ Less)))
   unfolding grevlex

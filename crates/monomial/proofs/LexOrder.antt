@@ -29,7 +29,7 @@ use Rattle.monomial.specs.Rows.{Row, exponent, product}
 use Rattle.monomial.specs.Orders.{compared, lex, variables_from, variables, backwards}
 use Rattle.monomial.specs.Ordering.{monomials, LessBy}
 use Rattle.monomial.proofs.OrderLaws.{MonomialOrder, Ranks}
-use Rattle.monomial.specs.declared.order.Comparison.TheVariants.{Less, Equal, Greater}
+use Rattle.std.specs.declared.cmp.Ordering.TheVariants.{Less, Equal, Greater}
 use Rattle.monomial.proofs.Products.{row-extensional, exponent-product}
 use Rattle.monomial.proofs.Comparisons.{compared-sum, equal-not-less, equal-not-greater, then, then_less, then_equal, then-greater, otherwise, below-wf, comparison-order}
 

@@ -12,20 +12,20 @@ use lib.ListN.{length, get_or, take, drop, length-take}
 use lib.Seq.{drop-cons, get_or-take}
 use Rattle.monomial.specs.Rows.{Row, exponent}
 use Rattle.monomial.specs.Orders.{compared, lex, backwards}
-use Rattle.monomial.specs.declared.order.Comparison.{Comparison}
-use Rattle.monomial.specs.declared.order.Comparison.TheVariants.{Less, Equal, Greater}
+use Rattle.std.specs.declared.cmp.Ordering.{Ordering}
+use Rattle.std.specs.declared.cmp.Ordering.TheVariants.{Less, Equal, Greater}
 use Rattle.monomial.proofs.Comparisons.{then}
 use Rattle.monomial.proofs.LexOrder.{lex-cons}
 
 -- Lex over the list l is r, the first variable of l is v, and its exponents compare as c.
-module _ (n : ℕ) (a b : Row n) {v : ℕ} {s l : List ℕ} {r : Comparison} (first : l ≡ v ∷ s) (so_far : lex n l a b ≡ r) where
-  lex-next : {c : Comparison} → c ≡ compared (exponent n a v) (exponent n b v) → then c (lex n s a b) ≡ r
+module _ (n : ℕ) (a b : Row n) {v : ℕ} {s l : List ℕ} {r : Ordering} (first : l ≡ v ∷ s) (so_far : lex n l a b ≡ r) where
+  lex-next : {c : Ordering} → c ≡ compared (exponent n a v) (exponent n b v) → then c (lex n s a b) ≡ r
   lex-next e = rw (e, ← lex-cons, ← first) so_far
 
-  pub lex-tie : {c : Comparison} → c ≡ compared (exponent n a v) (exponent n b v) → c ≡ Equal → lex n s a b ≡ r
+  pub lex-tie : {c : Ordering} → c ≡ compared (exponent n a v) (exponent n b v) → c ≡ Equal → lex n s a b ≡ r
   lex-tie e q = lex-next (sym q ∙ e)
 
-  pub lex-decided : {c : Comparison} → c ≡ compared (exponent n a v) (exponent n b v) → ¬ (c ≡ Equal) → c ≡ r
+  pub lex-decided : {c : Ordering} → c ≡ compared (exponent n a v) (exponent n b v) → ¬ (c ≡ Equal) → c ≡ r
   lex-decided {c = Less} e q = lex-next e
   lex-decided {c = Equal} e q = absurd (q refl)
   lex-decided {c = Greater} e q = lex-next e

@@ -19,7 +19,7 @@ use Rattle.monomial.specs.Rows.{Row, exponent, product, degree}
 use Rattle.monomial.specs.Orders.{lex, backwards}
 use Rattle.monomial.specs.Ordering.{Grevlex}
 use Rattle.monomial.specs.Ranks.{weight, from_digits, key_of, rank_of, above_ranks, Short}
-use Rattle.monomial.specs.declared.order.Comparison.TheVariants.{Less}
+use Rattle.std.specs.declared.cmp.Ordering.TheVariants.{Less}
 use Rattle.monomial.proofs.Comparisons.{equal-not-less}
 use Rattle.monomial.proofs.LexOrder.{lex-cons-less}
 use Rattle.monomial.proofs.GrevlexOrder.{grevlex-less, grevlex-order}

@@ -11,8 +11,8 @@ use Rattle.std.proofs.Common.{ap}
 use Rattle.std.proofs.Math.Decide.{ℕ_discrete}
 use Rattle.monomial.specs.Rows.{Row, one, product}
 use Rattle.monomial.specs.Orders.{lex, grevlex}
-use Rattle.monomial.specs.declared.order.Comparison.{Comparison}
-use Rattle.monomial.specs.declared.order.Comparison.TheVariants.{Less}
+use Rattle.std.specs.declared.cmp.Ordering.{Ordering}
+use Rattle.std.specs.declared.cmp.Ordering.TheVariants.{Less}
 
 -- 1, products, and a decision of equality.
 pub record Monomials (M : Type 0) : Type 0 where
@@ -48,7 +48,7 @@ unfolding one product row?
 monomials n = record { one = one n; mul = product n; same? = row? n }
 
 -- a is smaller than b, by a three-way comparison.
-abbrev pub LessBy : {M : Type 0} → (M → M → Comparison) → M → M → Type 0
+abbrev pub LessBy : {M : Type 0} → (M → M → Ordering) → M → M → Type 0
 LessBy compare a b = compare a b ≡ Less
 
 -- a is smaller than b in lex over the variables of the list s, greatest first.

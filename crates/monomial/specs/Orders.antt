@@ -7,16 +7,16 @@
 --   grevlex n a b        grevlex
 use Rattle.std.specs.Prelude.{true, false, List, [], ◌∷◌, ℕ, zero, suc, ltb}
 use Rattle.monomial.specs.Rows.{Row, exponent, degree}
-use Rattle.monomial.specs.declared.order.Comparison.{Comparison}
-use Rattle.monomial.specs.declared.order.Comparison.TheVariants.{Less, Equal, Greater}
+use Rattle.std.specs.declared.cmp.Ordering.{Ordering}
+use Rattle.std.specs.declared.cmp.Ordering.TheVariants.{Less, Equal, Greater}
 
 -- x against y.
-unfoldable pub compared : ℕ → ℕ → Comparison
+unfoldable pub compared : ℕ → ℕ → Ordering
 compared x y = elim (ltb x y) [ true ↦ Less | false ↦ elim (ltb y x) [ true ↦ Greater | false ↦ Equal ] ]
 
 -- Lex over the variables of the list, greatest first: the first of them in which the exponents differ decides (document 01: the leftmost
 -- nonzero entry of a - b).
-unfoldable pub lex : (n : ℕ) → List ℕ → Row n → Row n → Comparison
+unfoldable pub lex : (n : ℕ) → List ℕ → Row n → Row n → Ordering
 unfolding compared exponent
 lex n [] a b = Equal
 lex n (i ∷ s) a b = elim (compared (exponent n a i) (exponent n b i)) [ Less ↦ Less | Equal ↦ lex n s a b | Greater ↦ Greater ]
@@ -38,6 +38,6 @@ backwards (suc k) = k ∷ backwards k
 
 -- Grevlex: the higher total degree is greater; at equal degree a is greater when the rightmost nonzero entry of a - b is negative (document 01):
 -- read from the last variable, b is greater.
-unfoldable pub grevlex : (n : ℕ) → Row n → Row n → Comparison
+unfoldable pub grevlex : (n : ℕ) → Row n → Row n → Ordering
 unfolding compared degree lex backwards
 grevlex n a b = elim (compared (degree n a) (degree n b)) [ Less ↦ Less | Equal ↦ lex n (backwards n) b a | Greater ↦ Greater ]

@@ -5,15 +5,8 @@ ghost use Rattle.monomial.specs.Rows.{exponent, degree};
 ghost use Rattle.monomial.specs.Orders.{compared, lex, variables, backwards, grevlex};
 ghost use Rattle.monomial.specs.Represented.{row};
 
-use crate::{Exponent, MAX_VARIABLES, Monomial};
-
-// The first argument against the second.
-#[derive(Clone, Copy)]
-pub enum Comparison {
-    Less,
-    Equal,
-    Greater,
-}
+use crate::{MAX_VARIABLES, Monomial};
+use std::cmp::Ordering;
 
 // The variables from greatest to least, counted from 0: the first n places.
 #[derive(Clone, Copy)]
@@ -30,44 +23,30 @@ pub fn x1_to_xn() -> Ranking
     }
 }
 
-impl Exponent {
-    pub fn compare(self, other: Exponent) -> Comparison
-        ensures { result ≡ compared self.0 other.0 }
-    {
-        if self.0 < other.0 {
-            Comparison::Less
-        } else if other.0 < self.0 {
-            Comparison::Greater
-        } else {
-            Comparison::Equal
-        }
-    }
-}
-
 impl Monomial {
     // The exponents of variable v, compared.
-    fn compare_at(self, other: Monomial, v: usize) -> Comparison
+    fn compare_at(self, other: Monomial, v: usize) -> Ordering
         requires { v < most_variables }
         ensures { (n : ℕ) → v < n → result ≡ compared (exponent n (row n self) v) (exponent n (row n other) v) }
     {
-        self.exponent(v).compare(other.exponent(v))
+        self.exponent(v).cmp(&other.exponent(v))
     }
 
     // The last variable in which the exponents differ decides.
-    fn compare_backwards(self, other: Monomial, n: usize) -> Comparison
+    fn compare_backwards(self, other: Monomial, n: usize) -> Ordering
         requires { n ≤ most_variables }
         ensures { result ≡ lex n (backwards n) (row n self) (row n other) }
     {
         for i in (0..n).rev() {
             let c = self.compare_at(other, i);
             match c {
-                Comparison::Equal => {}
+                Ordering::Equal => {}
                 _ => {
                     return c;
                 }
             }
         }
-        Comparison::Equal
+        Ordering::Equal
     }
 
     // The total degree.
@@ -83,18 +62,12 @@ impl Monomial {
     }
 
     // Grevlex: the degrees decide; at equal degree the last variable in which the exponents differ, where the smaller exponent is the greater monomial.
-    pub fn compare_grevlex(self, other: Monomial, n: usize) -> Comparison
+    pub fn compare_grevlex(self, other: Monomial, n: usize) -> Ordering
         requires { n ≤ most_variables }
         ensures { result ≡ grevlex n (row n self) (row n other) }
     {
-        let d = self.degree(n);
-        let e = other.degree(n);
-        if d < e {
-            return Comparison::Less;
-        }
-        if e < d {
-            return Comparison::Greater;
-        }
-        other.compare_backwards(self, n)
+        self.degree(n)
+            .cmp(&other.degree(n))
+            .then_with(|| other.compare_backwards(self, n))
     }
 }
