@@ -126,15 +126,12 @@ impl Rows {
     {
         let at = self.used;
         let k = q.pivot;
-        let mut i: usize = 0;
-        while i < at {
+        for i in 0..at {
             let r = self.rows[i];
-            let row = r.row;
-            let c = row.c[k];
+            let c = r.row.c[k];
             if c.0 != 0 {
                 self.rows[i] = r.cleared(q, p);
             }
-            i += 1;
         }
         self.rows[at] = q;
         self.used = at + 1;
@@ -150,15 +147,11 @@ impl Rows {
             row: v,
             combination: unit(self.used, p),
         };
-        let mut i: usize = 0;
-        while i < self.used {
-            let r = self.rows[i];
-            let at = r.pivot;
-            let c = v.c[at];
+        for r in &self.rows[..self.used] {
+            let c = v.c[r.pivot];
             if c.0 != 0 {
-                x = x.less(c, r, p);
+                x = x.less(c, *r, p);
             }
-            i += 1;
         }
         x
     }

@@ -30,9 +30,7 @@ pub fn line_of(
     ensures { WrittenLine p n m combination standard result }
 {
     let mut g = with_term(empty(), Residue::ONE, m);
-    let mut k = standard.count;
-    while 0 < k {
-        k -= 1;
+    for k in (0..standard.count).rev() {
         let c = combination.c[k];
         let b = standard.monomials[k];
         let at = g.terms;

@@ -19,9 +19,6 @@ full c =
 whole : (c : Start) → FullLength c.args.combination
 whole c = search (length-mapped, rules)
 
-pub with_term-g-requires : goal.with_term-g-requires
-with_term-g-requires c = omega (arith, c.empty.ensures)
-
 -- The line with m alone.
 first : (c : After-with_term-g) → let a = c.args in FirstTerm a.p a.n a.m c.with_term-g.result
 first c = first-term c.requires.above_one c.requires.padded c.empty.ensures refl c.with_term-g.ensures
@@ -29,33 +26,9 @@ first c = first-term c.requires.above_one c.requires.padded c.empty.ensures refl
 pub loop-k-init : goal.loop-k-init
 loop-k-init c = writing_start (full (goal.at.loop-k-init c).Start) (first c) (record { coefficients = search (length-mapped, rules); monomials = search (length-mapped, rules) })
 
-pub offset_bounds-combination-k : goal.offset_bounds-combination-k
-offset_bounds-combination-k c = omega (arith, c.requires.few, c.loop-k.invariant.within)
-
-pub bounds-combination-k : goal.bounds-combination-k
-bounds-combination-k c = omega (arith, c.loop-k-test.true, c.requires.few, c.loop-k.invariant.within)
-
-pub offset_bounds-standard-k : goal.offset_bounds-standard-k
-offset_bounds-standard-k c = omega (arith, bounds-combination-k (goal.at.offset_bounds-standard-k c).In-loop-k)
-
-pub bounds-standard-k : goal.bounds-standard-k
-bounds-standard-k c = bounds-combination-k (goal.at.bounds-standard-k c).In-loop-k
-
-pub neg-requires : goal.neg-requires
-neg-requires c = c.requires.below.below _
-
 -- There is a place for one term more.
 room : (c : After-neg) → c.loop-k.g.terms < most_terms
 room c = omega (arith, c.loop-k-test.true, c.requires.few, c.loop-k.invariant.room)
-
-pub offset_bounds-g-at : goal.offset_bounds-g-at
-offset_bounds-g-at c = omega (arith, room c)
-
-pub offset_bounds-g-at-in-loop-k : goal.offset_bounds-g-at-in-loop-k
-offset_bounds-g-at-in-loop-k c = omega (arith, room c)
-
-pub loop-k-smaller : goal.loop-k-smaller
-loop-k-smaller c = omega (arith, c.loop-k-test.true)
 
 pub loop-k-preserved : goal.loop-k-preserved
 loop-k-preserved c =
@@ -66,12 +39,3 @@ loop-k-preserved c =
 
 pub returns : goal.returns
 returns c = writing-stop (full (goal.at.returns c).Start) c.requires.few (whole (goal.at.returns c).Start) (first (goal.at.returns c).After-with_term-g) (omega arith) c.loop-k.invariant
-
-pub bounds-g-at : goal.bounds-g-at
-bounds-g-at c = room c
-
-pub bounds-g-at-in-loop-k : goal.bounds-g-at-in-loop-k
-bounds-g-at-in-loop-k c = room c
-
-pub terms_with-requires : goal.terms_with-requires
-terms_with-requires c = room c

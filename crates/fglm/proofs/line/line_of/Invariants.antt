@@ -4,6 +4,3 @@ use Rattle.fglm.proofs.line.line_of.Given as goal
 
 abbrev pub invariant-loop-k : goal.invariant-loop-k
 invariant-loop-k l = Writing l.p l.n l.combination l.standard l.initial.g l.g l.k
-
-abbrev pub decreases-loop-k : goal.decreases-loop-k
-decreases-loop-k l = l.k

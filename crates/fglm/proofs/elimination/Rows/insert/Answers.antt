@@ -8,7 +8,7 @@ use Rattle.lists.proofs.Elements.{length-mapped}
 use Rattle.lines.specs.Sizes.{most_standard}
 use Rattle.fglm.specs.RowState.{row_at, SoundRow}
 use Rattle.fglm.proofs.RowSteps.{cleared-none}
-use Rattle.fglm.proofs.Clearing.{clearing-start, clearing-row, clearing-turn, clearing-skip, clearing-is, clearing-stop}
+use Rattle.fglm.proofs.Clearing.{clearing-row, clearing-turn, clearing-skip, clearing-is, clearing-stop}
 use Rattle.fglm.proofs.elimination.Rows.insert.Goals.{In-loop-i, Start, then-c-ne0, else-c-ne0}
 use Rattle.fglm.proofs.elimination.Rows.insert.Goals as goal
 
@@ -24,22 +24,10 @@ sound c =
     let (_, rows, _, _) = c.requires in
     subst (SoundRow _) (sym (clearing-row c.loop-i.invariant)) (rows.rows c.loop-i.i c.loop-i-test.true)
 
-pub loop-i-init : goal.loop-i-init
-loop-i-init c = clearing-start
-
-pub bounds-row-k : goal.bounds-row-k
-bounds-row-k c = let (_, _, q, _) = c.requires in q.place
-
 pub cleared-requires : goal.cleared-requires
 cleared-requires c =
     let (modulus, _, q, _) = c.requires in
     (modulus, sound (goal.at.cleared-requires c).In-loop-i, q)
-
-pub overflow_add-i : goal.overflow_add-i
-overflow_add-i c = omega (arith, c.loop-i-test.true)
-
-pub loop-i-smaller : goal.loop-i-smaller
-loop-i-smaller c = omega (arith, c.loop-i-test.true)
 
 pub loop-i-preserved : goal.loop-i-preserved
 loop-i-preserved c =
@@ -51,9 +39,6 @@ loop-i-preserved c =
           clearing-is w.self-is
           (clearing-skip c.loop-i.invariant c.loop-i-test.true (cleared-none modulus.prime.above_one q (sound (goal.at.loop-i-preserved c).In-loop-i) w.if-c-ne0.false))
     ]
-
-pub bounds-self-at : goal.bounds-self-at
-bounds-self-at c = let (_, _, _, room) = c.requires in room
 
 pub returns : goal.returns
 returns c = record { others = c.loop-i.self; cleared = clearing-stop c.loop-i.invariant (omega arith); is = refl }

@@ -1,10 +1,6 @@
 -- `Rows::insert` meets its contract. The loop's invariant: the first i rows are cleared, the others are as they came.
-use Prim.Native.Nat.{◌-◌}
 use Rattle.fglm.proofs.Clearing.{Clearing}
 use Rattle.fglm.proofs.elimination.Rows.insert.Given as goal
 
 abbrev pub invariant-loop-i : goal.invariant-loop-i
 invariant-loop-i l = Clearing l.p l.q l.initial.self l.self l.i
-
-abbrev pub decreases-loop-i : goal.decreases-loop-i
-decreases-loop-i l = l.initial.self.used - l.i
