@@ -22,10 +22,7 @@ use Rattle.monomial.specs.declared.Monomial.{Monomial}
 use Rattle.monomial.proofs.Places.{row-monomial}
 use Rattle.answer.specs.Outcomes.{pass}
 use Rattle.answer.specs.Refusals.{number}
-use Rattle.answer.specs.Verdicts.{outcome}
 use Rattle.answer.specs.declared.Refusal.{Refusal}
-use Rattle.answer.specs.declared.Check.{Check}
-use Rattle.answer.specs.declared.Check.TheVariants.{Pass, Refuse}
 use Rattle.lines.specs.Sizes.{most_lines}
 use Rattle.lines.specs.Terms.{Term, as_row}
 use Rattle.lines.specs.LineTerms.{terms_in}
@@ -43,6 +40,7 @@ use Rattle.checks.proofs.GoodLines.{GoodTerm, passes-term}
 use Rattle.checks.proofs.KeptTerm.{KeepsTerm, kept}
 use Rattle.checks.proofs.Sequence.{first-refused, first-passed}
 use Rattle.checks.proofs.LaterTerms.{next-term, no-later-term}
+use Rattle.std.specs.Prelude.{Result, Ok, Err}
 
 pub too_many : (p n k : ℕ) (terms : List Term) → 1 ≤ length terms → most_lines < k → check_generator p n k terms (some 10)
 too_many p n k [] h g = absurd (omega arith)
@@ -56,24 +54,20 @@ pub no-first : (n : ℕ) (text : Bytes) (start : ℕ) (terms : List Term) → Ah
     read_term n (drop (start + 1) text) ≡ bad → ⊥
 no-first n text start terms a h = no-later-term n text start terms a (tab n (drop start text) terms a h)
 
--- The first term stands at the place, and c is the answer to it.
-module _ (p n : ℕ) (text : Bytes) (start i coefficient : ℕ) (exponents : List ℕ) (c : Check)
-    (reads : answers.TermSays n text (start + 1) (At i) coefficient exponents)
-    (says : check_first p (coefficient, take n exponents) pass (outcome c)) where
+-- The first term stands at the place.
+module _ (p n : ℕ) (text : Bytes) (start i coefficient : ℕ) (exponents : List ℕ)
+    (reads : answers.TermSays n text (start + 1) (At i) coefficient exponents) where
   abbrev t : Term
   t = (coefficient, take n exponents)
 
-  pub line_refused : (k : ℕ) {r : Refusal} → c ≡ Refuse r → k ≤ most_lines → (terms : List Term) → Ahead n (drop start text) terms →
+  pub line_refused : (k : ℕ) (r : Refusal) → check_first p t pass (some (number r)) → k ≤ most_lines → (terms : List Term) → Ahead n (drop start text) terms →
       1 ≤ length terms → check_generator p n k terms (some (number r))
-  line_refused k e b terms a h =
+  line_refused k r says b terms a h =
       let q = next-term n text start terms a (tab n (drop start text) terms a h) reads.reads in
-      rw q.cons (inr (λ g. omega arith, first-refused p t (rw e at says)))
+      rw q.cons (inr (λ g. omega arith, first-refused p t says))
 
   -- It passes.
-  module _ (e : c ≡ Pass) where
-    passes : check_first p t pass none
-    passes = rw e at says
-
+  module _ (passes : check_first p t pass none) where
     pub good-first : GoodTerm p t
     good-first = (passes-term p t passes).0
 
@@ -88,18 +82,18 @@ module _ (p n : ℕ) (text : Bytes) (start i coefficient : ℕ) (exponents : Lis
           let l = longer.terms n in
           l ∙ rw (none, kept p n t keeps good-first (length-take-le n exponents h))
 
-      line-says : (k : ℕ) (check : Check) (left : List Term) (r : Generator) → k ≤ most_lines → n ≤ length exponents → LaterSays p n one t left check r →
-          GeneratorSays p n k (t ∷ left) check r
-      line-says k Pass left r b h l =
+      line-says : (k : ℕ) (left : List Term) (r : Result Generator Refusal) → k ≤ most_lines → n ≤ length exponents → LaterSays p n one t left r →
+          GeneratorSays p n k (t ∷ left) r
+      line-says k left (Ok g) b h l =
           let count : suc one.terms ≡ 2 = ap suc (longer.count ∙ ap suc none) in
           (inr (λ g. omega arith, first-passed p t passes (rw count at l.0)), l.1 ∙ ap (λ x. x ++ left) (only h), l.2)
-      line-says k (Refuse x) left r b h l =
+      line-says k left (Err x) b h l =
           let count : suc one.terms ≡ 2 = ap suc (longer.count ∙ ap suc none) in
           inr (λ g. omega arith, first-passed p t passes (rw count at l))
 
-      pub later : (k : ℕ) (check : Check) (r : Generator) → k ≤ most_lines → n ≤ length exponents →
-          ((left : List Term) (before : Term) → Ahead n (drop i text) left → as_row n before.1 ≡ row n m → LaterSays p n one before left check r) →
-          (terms : List Term) → Ahead n (drop start text) terms → 1 ≤ length terms → GeneratorSays p n k terms check r
-      later k check r b h rest terms a g =
+      pub later : (k : ℕ) (r : Result Generator Refusal) → k ≤ most_lines → n ≤ length exponents →
+          ((left : List Term) (before : Term) → Ahead n (drop i text) left → as_row n before.1 ≡ row n m → LaterSays p n one before left r) →
+          (terms : List Term) → Ahead n (drop start text) terms → 1 ≤ length terms → GeneratorSays p n k terms r
+      later k r b h rest terms a g =
           let q = next-term n text start terms a (tab n (drop start text) terms a g) reads.reads in
-          rw q.cons (line-says k check q.later r b h (rest q.later t q.ahead (sym (rw keeps.monomial (row-monomial n _)))))
+          rw q.cons (line-says k q.later r b h (rest q.later t q.ahead (sym (rw keeps.monomial (row-monomial n _)))))

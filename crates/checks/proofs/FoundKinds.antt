@@ -11,7 +11,6 @@ use native.Mathlib.Numerals.{add-one}
 use native.Mathlib.Omega.{arith}
 use lib.ListN.{length, drop}
 use Rattle.lists.specs.Lists.{Bytes}
-use Rattle.answer.specs.declared.Check.TheVariants.{Pass}
 use Rattle.lines.specs.Terms.{Term}
 use Rattle.lines.specs.declared.line.Generator.{Generator}
 use Rattle.tabtext.specs.Text.{TextLine, header, generator, standard, points, end, Form}
@@ -23,11 +22,11 @@ use Rattle.tabtext.specs.declared.record.Kind.TheVariants as kinds
 use Rattle.tabtext.proofs.Places.{starts-within}
 use Rattle.tabtext.proofs.Records.{RecordLine, terms-of-line}
 use Rattle.checks.specs.Checks.{Front, Later}
-use Rattle.checks.specs.Answers.{Ahead, GeneratorSays, LineSays}
-use Rattle.checks.specs.declared.basis.Turn.TheVariants.{Next}
+use Rattle.checks.specs.Answers.{Ahead, GeneratorSays, PassedLine}
 use Rattle.checks.proofs.Fronts.{front-of-read}
 use Rattle.checks.proofs.TermsAhead.{ahead-of-terms}
 use Rattle.checks.proofs.FirstTerm.{tab}
+use Rattle.std.specs.Prelude.{Ok}
 
 module _ (at i : ℕ) where
   terms-kind : (l : TextLine) {span : Span} → kind_of at i l ≡ kinds.Generator span → (terms : List Term) × (l ≡ generator terms) × (span.start ≡ at + 4)
@@ -75,8 +74,8 @@ module _ (n k : ℕ) (s : Bytes) (at : ℕ) (r : Record) (i : ℕ) (f : RecordLi
   end-of-found e =
       front-of-read n (drop at s) (f.reads ∙ ap (λ l. got l (drop i s)) (end-kind at i f.text (sym f.kind ∙ e)))
 
-pub poly-passed : (p n k : ℕ) (s : Bytes) (at start i : ℕ) (g : Generator) (poly : GeneratorKind n s at start i) → GeneratorSays p n (k + 1) poly.terms Pass g →
-    LineSays p n k s at (Next i) g
+pub poly-passed : (p n k : ℕ) (s : Bytes) (at start i : ℕ) (g : Generator) (poly : GeneratorKind n s at start i) → GeneratorSays p n (k + 1) poly.terms (Ok g) →
+    PassedLine p n k s at i g
 poly-passed p n k s at start i g poly h =
     record {
       front = rw h.1 (front-of-read n (drop at s) poly.reads);

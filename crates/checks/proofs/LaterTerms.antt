@@ -3,7 +3,7 @@
 --   next-term       the term that stands next is the first of those ahead
 --   no-later-term   a tab stands there, so a term does
 --   no_more         no tab stands there, so no term is ahead
---   NextTerm        a term that stands next, and the answer to it
+--   NextTerm        a term that stands next, and the outcome of its checks
 --   Rest            what is left to read and to check
 --   Inv             what holds at the loop's head
 --   start, turn     it holds where the loop begins, and again after a term that passes
@@ -27,10 +27,7 @@ use Rattle.monomial.specs.declared.Monomial.{Monomial}
 use Rattle.monomial.proofs.Places.{row-monomial}
 use Rattle.answer.specs.Outcomes.{pass}
 use Rattle.answer.specs.Refusals.{number}
-use Rattle.answer.specs.Verdicts.{outcome}
 use Rattle.answer.specs.declared.Refusal.{Refusal}
-use Rattle.answer.specs.declared.Check.{Check}
-use Rattle.answer.specs.declared.Check.TheVariants.{Pass, Refuse}
 use Rattle.lines.specs.Sizes.{most_terms}
 use Rattle.lines.specs.Terms.{Term, as_row}
 use Rattle.lines.specs.LineTerms.{exponents_of, terms_in}
@@ -48,6 +45,7 @@ use Rattle.checks.specs.Answers.{Ahead, LaterSays}
 use Rattle.checks.proofs.GoodLines.{GoodTerm, skipped, passes-term}
 use Rattle.checks.proofs.KeptTerm.{KeepsTerm, kept}
 use Rattle.checks.proofs.Sequence.{next-refused, next-passed}
+use Rattle.std.specs.Prelude.{Ok, Err}
 
 -- A term stands next: it is the first of those ahead.
 pub record Split (n : ℕ) (t : Term) (rest : Bytes) (left : List Term) : Type 0 where
@@ -71,11 +69,11 @@ module _ (n : ℕ) (text : Bytes) (at : ℕ) where
   no_more [] a e = refl
   no_more (t ∷ left) a e = absurd (false≢true (sym e ∙ a.1))
 
--- A term stands at the place `at`, up to i, after the first j of a line, the last of which has the monomial `last`; c is the answer to it.
-pub record NextTerm (p n : ℕ) (text : Bytes) (j : ℕ) (last : Monomial) (at i coefficient : ℕ) (exponents : List ℕ) (c : Check) : Type 0 where
+-- A term stands at the place `at`, up to i, after the first j of a line, the last of which has the monomial `last`; o is the outcome of its checks.
+pub record NextTerm (p n : ℕ) (text : Bytes) (j : ℕ) (last : Monomial) (at i coefficient : ℕ) (exponents : List ℕ) (o : Option ℕ) : Type 0 where
   pub tab : starts_with 9 (drop at text) ≡ true
   pub reads : answers.TermSays n text (at + 1) (At i) coefficient exponents
-  pub says : (b : Term) → as_row n b.1 ≡ row n last → check_next p n (j + 1) b (coefficient, take n exponents) pass (outcome c)
+  pub says : (b : Term) → as_row n b.1 ≡ row n last → check_next p n (j + 1) b (coefficient, take n exponents) pass o
 
 module _ (p n : ℕ) (text : Bytes) (line : Generator) where
   -- The terms `first` after those of `line`, the last of which is `before₀`: what is left of them at the place `at`, after those of g.
@@ -102,28 +100,27 @@ module _ (p n : ℕ) (text : Bytes) (line : Generator) where
 
     module _ (g : Generator) (last : Monomial) (at : ℕ) (inv : Inv g last at) where
       pub stop : starts_with 9 (drop at text) ≡ false → (first : List Term) (before : Term) → Ahead n (drop begin text) first →
-          as_row n before.1 ≡ row n m → LaterSays p n line before first Pass g
+          as_row n before.1 ≡ row n m → LaterSays p n line before first (Ok g)
       stop e first before a h =
           let r = inv.rest first before a h in
           let q = no_more n text at r.left r.ahead e in
           (r.checks none (rw q refl), sym (append-nil _) ∙ (rw q at r.terms), inv.held)
 
-      module _ (i coefficient : ℕ) (exponents : List ℕ) (c : Check) (next : NextTerm p n text g.terms last at i coefficient exponents c) where
+      module _ (i coefficient : ℕ) (exponents : List ℕ) where
         abbrev t : Term
         t = (coefficient, take n exponents)
 
-        pub refused : {k : Refusal} → c ≡ Refuse k → (first : List Term) (before : Term) → Ahead n (drop begin text) first →
-            as_row n before.1 ≡ row n m → LaterSays p n line before first (Refuse k) g
-        refused {k} e first before a h =
+        pub refused : (k : Refusal) → NextTerm p n text g.terms last at i coefficient exponents (some (number k)) → (first : List Term) (before : Term) →
+            Ahead n (drop begin text) first → as_row n before.1 ≡ row n m → LaterSays p n line before first (Err k)
+        refused k next first before a h =
             let r = inv.rest first before a h in
             let q = next-term n text at r.left r.ahead next.tab next.reads.reads in
-            let s = rw e at (next.says r.before r.holds) in
-            r.checks (some (number k)) (rw q.cons (next-refused p n (suc g.terms) r.before t (rw add-one at s)))
+            r.checks (some (number k)) (rw q.cons (next-refused p n (suc g.terms) r.before t (rw add-one at (next.says r.before r.holds))))
 
-        module _ (e : c ≡ Pass) where
+        module _ (next : NextTerm p n text g.terms last at i coefficient exponents none) where
           -- It passes after the last term, whatever the coefficient of that one.
           own : check_next p n (g.terms + 1) (0, exponents_of n last) t pass none
-          own = rw e at (next.says (0, exponents_of n last) (as_row-exponents n last))
+          own = next.says (0, exponents_of n last) (as_row-exponents n last)
 
           pub room : g.terms < most_terms
           room = omega (arith, (skipped own).0)
@@ -138,13 +135,12 @@ module _ (p n : ℕ) (text : Bytes) (line : Generator) where
             rest = λ first before a b.
                 let r = inv.rest first before a b in
                 let q = next-term n text at r.left r.ahead next.tab next.reads.reads in
-                let s = rw e at (next.says r.before r.holds) in
                 record {
                   left = q.later;
                   before = t;
                   ahead = q.ahead;
                   holds = sym (rw k.monomial (row-monomial n _));
                   terms = rw (l.terms n, append_assoc, kept p n t k good (length-take-le n exponents h)) (rw q.cons at r.terms);
-                  checks = λ o d. r.checks o (rw q.cons (next-passed p n (suc g.terms) r.before t (rw add-one at s) (rw l.count at d)));
+                  checks = λ o d. r.checks o (rw q.cons (next-passed p n (suc g.terms) r.before t (rw add-one at (next.says r.before r.holds)) (rw l.count at d)));
                 };
           }

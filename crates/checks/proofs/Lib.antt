@@ -13,6 +13,7 @@
 --   Cases             texts and their outcomes, as one list with one claim
 -- The code:
 --   Sequence          one check after another
+--   OtherErrors       a result whose error was replaced by another
 --   KeptTerm          a term that passes its checks
 --   TermsAhead        the terms of a poly line, as they are read
 --   LaterTerms        the loop over the later terms of a poly line
@@ -32,6 +33,7 @@ pub mod GoodLines
 pub mod Passes
 pub mod Cases
 pub mod Sequence
+pub mod OtherErrors
 pub mod KeptTerm
 pub mod TermsAhead
 pub mod LaterTerms

@@ -3,7 +3,8 @@
 --   LinesInv              what holds at the loop's head: the lines that are left decide
 --   start, turn           it holds where the loop begins, and again after a poly line that passes
 --   lines-room            a poly line that passes has room
---   stop                  the verdict on a line is that on all
+--   stop                  the end line passes, and so do all lines
+--   stop-refused          a line is refused, and so are the lines
 use Prim.Native.Nat.{ℕ, suc, ◌+◌, ◌≤◌, ◌<◌}
 use mathlib.Core.Path.{◌≡◌, ◌∙◌}
 use mathlib.Core.List.{List, [], ◌∷◌, ◌++◌, map, map-append}
@@ -15,18 +16,19 @@ use lib.ListN.{length, set, take, drop, length-map, length-set}
 use lib.Seq.{length-take-le, take-suc-set}
 use Rattle.lists.specs.Lists.{Bytes, Each}
 use Rattle.lists.proofs.EachElement.{each_last}
-use Rattle.answer.specs.Outcomes.{Judged}
-use Rattle.answer.specs.declared.Verdict.{Verdict}
-use Rattle.answer.specs.declared.Verdict.TheVariants.{Passed, Refused}
+use Rattle.answer.specs.Outcomes.{Judged, refused, passed}
+use Rattle.answer.specs.Refusals.{number}
+use Rattle.answer.specs.declared.Refused.{Refused}
 use Rattle.lines.specs.Sizes.{most_lines}
 use Rattle.lines.specs.Terms.{Term}
 use Rattle.lines.specs.LineTerms.{terms_in}
-use Rattle.lines.specs.Bases.{PaddedLine}
+use Rattle.lines.specs.Bases.{PaddedLine, PaddedBasis, StoredBasis}
 use Rattle.lines.specs.declared.line.Generator.{Generator}
 use Rattle.checks.specs.Checks.{check_generator, Remaining, generator_passed}
 use Rattle.checks.specs.Checks as checks
-use Rattle.checks.specs.Answers.{basis_of, Stops, PassedLine, LinesSays}
+use Rattle.checks.specs.Answers.{basis_of, Stops, PassedLine}
 use Rattle.checks.proofs.Sequence.{none-not-some}
+use Rattle.std.specs.Prelude.{Ok, Err}
 
 -- The terms of the first k lines.
 abbrev pub lines_so_far : ℕ → ℕ → List Generator → List (List Term)
@@ -67,7 +69,12 @@ module _ (p n : ℕ) (text : Bytes) (begin : ℕ) where
           rest = λ o q. inv.rest o (generator_passed h.front (rw long h.passes) (rw (stored, map-append) at q));
         }
 
-    pub stop : (v : Verdict) → Stops p n k (drop at text) v → LinesSays p n (drop begin text) v (record { p = p; n = n; lines = k; generators = gs })
+    abbrev basis : StoredBasis
+    basis = record { p = p; n = n; lines = k; generators = gs }
+
+    pub stop : Stops p n k (drop at text) (Ok tt) → Remaining p n (passed (basis_of basis)) [] (drop begin text) × PaddedBasis basis
     unfolding basis_of
-    stop Passed h = (inv.rest _ (h (lines_so_far n k gs) long), (inv.most, inv.padded))
-    stop (Refused r line) h = inv.rest _ (h (lines_so_far n k gs) long)
+    stop h = (inv.rest _ (h (lines_so_far n k gs) long), (inv.most, inv.padded))
+
+    pub stop-refused : (e : Refused) → Stops p n k (drop at text) (Err e) → Remaining p n (refused (number e.refusal) e.line) [] (drop begin text)
+    stop-refused e h = inv.rest _ (h (lines_so_far n k gs) long)

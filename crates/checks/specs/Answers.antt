@@ -8,27 +8,24 @@
 --   PassedLine        a poly line stands at a place, and passes
 --   LineSays          what the answer to a line after the basis line says
 --   LinesSays         what the answer to the lines after the basis line says
---   BasisSays s v b   what the answer to a text says
-use Rattle.std.specs.Prelude.{ℕ, suc, ◌≤◌, ◌<◌, ◌≡◌, List, [], ◌∷◌, ◌++◌, true, false, length, drop}
-use Rattle.std.proofs.Math.Option.{none}
+--   BasisSays         what the answer to a text says
+use Rattle.std.specs.Prelude.{ℕ, suc, ◌≤◌, ◌<◌, ◌≡◌, List, [], ◌∷◌, ◌++◌, true, false, length, drop, ⊤, Result, Ok, Err, Option, Some, None}
+use Rattle.std.proofs.Math.Option.{none, some}
 use Rattle.lists.specs.Lists.{Bytes}
-use Rattle.answer.specs.Verdicts.{judged, outcome}
+use Rattle.answer.specs.Verdicts.{judged}
 use Rattle.answer.specs.Outcomes.{refused, passed}
 use Rattle.answer.specs.Refusals.{number}
-use Rattle.answer.specs.declared.Verdict.{Verdict}
-use Rattle.answer.specs.declared.Verdict.TheVariants.{Passed, Refused}
-use Rattle.answer.specs.declared.Check.{Check}
-use Rattle.answer.specs.declared.Check.TheVariants.{Pass, Refuse}
-use Rattle.lines.specs.Bases.{PaddedLine, PaddedBasis, StoredBasis, generators_in}
+use Rattle.answer.specs.declared.Refusal.{Refusal}
+use Rattle.answer.specs.declared.Refused.{Refused}
+use Rattle.lines.specs.Bases.{PaddedLine, PaddedBasis, StoredBasis, basis_in, generators_in}
 use Rattle.lines.specs.Terms.{Term}
 use Rattle.lines.specs.LineTerms.{terms_in}
+use Rattle.lines.specs.declared.Shape.{Shape}
 use Rattle.lines.specs.declared.line.Generator.{Generator}
 use Rattle.tabtext.specs.Text.{generator, end}
 use Rattle.tabtext.specs.Readers.{got, starts_with, read_term}
 use Rattle.checks.specs.Checks.{check_terms, check_generator, Front, Remaining, Checked}
 use Rattle.checks.specs.Checks as checks
-use Rattle.checks.specs.declared.basis.Turn.{Turn}
-use Rattle.checks.specs.declared.basis.Turn.TheVariants.{Next, Stop}
 
 -- The basis that a value holds.
 unfoldable pub basis_of : StoredBasis → checks.Basis
@@ -41,21 +38,21 @@ Ahead n s [] = starts_with 9 s ≡ false
 Ahead n s (t ∷ ts) = (rest : Bytes) × (starts_with 9 s ≡ true) × (read_term n (drop 1 s) ≡ got t rest) × Ahead n rest ts
 
 -- The answer to the terms after those of g, the last of which is `before`: the outcome of their checks, and all terms if they pass.
-abbrev pub LaterSays : (p n : ℕ) → Generator → Term → List Term → Check → Generator → Type 0
-LaterSays p n g before left Pass r = check_terms p n (suc g.terms) before left (outcome Pass) × (terms_in n r ≡ terms_in n g ++ left) × PaddedLine n r
-LaterSays p n g before left (Refuse k) r = check_terms p n (suc g.terms) before left (outcome (Refuse k))
+abbrev pub LaterSays : (p n : ℕ) → Generator → Term → List Term → Result Generator Refusal → Type 0
+LaterSays p n g before left (Ok r) = check_terms p n (suc g.terms) before left none × (terms_in n r ≡ terms_in n g ++ left) × PaddedLine n r
+LaterSays p n g before left (Err k) = check_terms p n (suc g.terms) before left (some (number k))
 
 -- The answer to the k-th poly line, with the given terms: the outcome of its checks, and the terms if it passes.
-abbrev pub GeneratorSays : (p n k : ℕ) → List Term → Check → Generator → Type 0
-GeneratorSays p n k terms Pass g = check_generator p n k terms (outcome Pass) × (terms_in n g ≡ terms) × PaddedLine n g
-GeneratorSays p n k terms (Refuse r) g = check_generator p n k terms (outcome (Refuse r))
+abbrev pub GeneratorSays : (p n k : ℕ) → List Term → Result Generator Refusal → Type 0
+GeneratorSays p n k terms (Ok g) = check_generator p n k terms none × (terms_in n g ≡ terms) × PaddedLine n g
+GeneratorSays p n k terms (Err r) = check_generator p n k terms (some (number r))
 
 -- v is the verdict on the lines s that come after k poly lines, whatever these are.
-abbrev pub Stops : (p n k : ℕ) → Bytes → Verdict → Type 0
+abbrev pub Stops : (p n k : ℕ) → Bytes → Result ⊤ Refused → Type 0
 Stops p n k s v = (got : List (List Term)) → length got ≡ k → Remaining p n (judged v (record { p = p; n = n; generators = got })) got s
 
 -- The answer to the end line after k poly lines, with the given count; `rest` is what stands after it.
-abbrev pub EndSays : (k count : ℕ) → Bytes → Verdict → Type 0
+abbrev pub EndSays : (k count : ℕ) → Bytes → Result ⊤ Refused → Type 0
 EndSays k count rest v = (p n : ℕ) (s : Bytes) → Front n s (end count) rest → Stops p n k s v
 
 -- At the place `at`, after k poly lines, stands the poly line g, and passes; the text goes on at i.
@@ -67,16 +64,17 @@ pub record PassedLine (p n k : ℕ) (s : Bytes) (at i : ℕ) (g : Generator) : T
   pub inside : i ≤ length s
 
 -- The answer to the line at a place, after k poly lines: a poly line that passes, and the place after it; or the verdict.
-abbrev pub LineSays : (p n k : ℕ) → Bytes → ℕ → Turn → Generator → Type 0
-LineSays p n k s at (Next i) g = PassedLine p n k s at i g
-LineSays p n k s at (Stop v) g = Stops p n k (drop at s) v
+abbrev pub LineSays : (p n k : ℕ) → Bytes → ℕ → Result (Option (Generator × ℕ)) Refused → Type 0
+LineSays p n k s at (Ok (Some (g, i))) = PassedLine p n k s at i g
+LineSays p n k s at (Ok None) = Stops p n k (drop at s) (Ok tt)
+LineSays p n k s at (Err e) = Stops p n k (drop at s) (Err e)
 
--- The answer to the lines s after the basis line.
-abbrev pub LinesSays : (p n : ℕ) → Bytes → Verdict → StoredBasis → Type 0
-LinesSays p n s Passed b = Remaining p n (passed (basis_of b)) [] s × PaddedBasis b
-LinesSays p n s (Refused r line) b = Remaining p n (refused (number r) line) [] s
+-- The answer to the lines s after the basis line: the shape of the basis, the lines of which the arrays hold; or the refusal.
+abbrev pub LinesSays : (p n : ℕ) → Bytes → Result Shape Refused → (ts cs es : List ℕ) → Type 0
+LinesSays p n s (Ok shape) ts cs es = let b = basis_in shape ts cs es in Remaining p n (passed (basis_of b)) [] s × PaddedBasis b
+LinesSays p n s (Err e) ts cs es = Remaining p n (refused (number e.refusal) e.line) [] s
 
 -- The answer to a text: the outcome of checks 2 to 11. If the text is refused, the basis is free.
-abbrev pub BasisSays : Bytes → Verdict → StoredBasis → Type 0
-BasisSays s Passed b = Checked s (passed (basis_of b)) × PaddedBasis b
-BasisSays s (Refused r line) b = Checked s (refused (number r) line)
+abbrev pub BasisSays : Bytes → Result Shape Refused → (ts cs es : List ℕ) → Type 0
+BasisSays s (Ok shape) ts cs es = let b = basis_in shape ts cs es in Checked s (passed (basis_of b)) × PaddedBasis b
+BasisSays s (Err e) ts cs es = Checked s (refused (number e.refusal) e.line)

@@ -7,21 +7,14 @@ ghost use Rattle.lines.specs.Bases.{PaddedLine};
 ghost use Rattle.checks.specs.Answers.{Ahead, LaterSays, GeneratorSays};
 
 use crate::term::{check_first, check_next, monomial_of};
-use answer::{Check, Refusal};
+use answer::Refusal;
 use lines::line::{Generator, empty, with_term};
 use lines::sizes::MAX_LINES;
 use monomial::Monomial;
 use residue::Residue;
 use tabtext::terms::{Next, byte_is, read_term};
 
-// What the checks of a poly line say, and its terms if it passes.
-#[derive(Clone, Copy)]
-pub struct GeneratorRead {
-    pub check: Check,
-    pub generator: Generator,
-}
-
-// The terms after those of a line, of which the last has the monomial m.
+// The terms of a line and those that follow them in the text, if these pass; the last of the line has the monomial m.
 fn read_later(
     text: &[u8],
     start: usize,
@@ -29,10 +22,10 @@ fn read_later(
     n: usize,
     line: Generator,
     m: Monomial,
-) -> GeneratorRead
+) -> Result<Generator, Refusal>
     requires { (n ≤ most_variables) × (start ≤ length text.now) × PaddedLine n line }
     ensures { (left : List Term) (before : Term) → Ahead n (drop start text.now) left → as_row n before.1 ≡ row n m
-        → LaterSays p n line before left result.check result.generator }
+        → LaterSays p n line before left result }
 {
     let mut g = line;
     let mut last = m;
@@ -41,59 +34,40 @@ fn read_later(
         let t = read_term(text, at + 1, n);
         let next = t.next;
         let Next::At(i) = next else {
-            return GeneratorRead {
-                check: Check::Refuse(Refusal::BadLine),
-                generator: g,
-            };
+            return Err(Refusal::BadLine);
         };
         let row = t.row;
-        let check = check_next(t.coefficient, row, g.terms, last, p, n);
-        let Check::Pass = check else {
-            return GeneratorRead {
-                check,
-                generator: g,
-            };
-        };
+        check_next(t.coefficient, row, g.terms, last, p, n)?;
         last = monomial_of(row, n);
         g = with_term(g, Residue::of(t.coefficient, p), last);
         at = i;
     }
-    GeneratorRead {
-        check: Check::Pass,
-        generator: g,
-    }
+    Ok(g)
 }
 
 // The k-th poly line, whose terms stand from `start` on.
-pub fn check_generator(text: &[u8], start: usize, p: u16, n: usize, k: usize) -> GeneratorRead
+pub fn check_generator(
+    text: &[u8],
+    start: usize,
+    p: u16,
+    n: usize,
+    k: usize,
+) -> Result<Generator, Refusal>
     requires { (n ≤ most_variables) × (start ≤ length text.now) }
     ensures { (terms : List Term) → Ahead n (drop start text.now) terms → 1 ≤ length terms
-        → GeneratorSays p n k terms result.check result.generator }
+        → GeneratorSays p n k terms result }
 {
-    let none = empty();
     if MAX_LINES < k {
-        return GeneratorRead {
-            check: Check::Refuse(Refusal::TooManyLinesOrTerms),
-            generator: none,
-        };
+        return Err(Refusal::TooManyLinesOrTerms);
     }
     let t = read_term(text, start + 1, n);
     let next = t.next;
     let Next::At(i) = next else {
-        return GeneratorRead {
-            check: Check::Refuse(Refusal::BadLine),
-            generator: none,
-        };
+        return Err(Refusal::BadLine);
     };
     let row = t.row;
-    let check = check_first(t.coefficient, row, p, n);
-    let Check::Pass = check else {
-        return GeneratorRead {
-            check,
-            generator: none,
-        };
-    };
+    check_first(t.coefficient, row, p, n)?;
     let m = monomial_of(row, n);
-    let first = with_term(none, Residue::of(t.coefficient, p), m);
+    let first = with_term(empty(), Residue::of(t.coefficient, p), m);
     read_later(text, i, p, n, first, m)
 }

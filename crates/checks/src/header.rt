@@ -25,13 +25,13 @@ pub fn check_header(text: &[u8], h: Header) -> Check
     ensures { check_header (take (h.order.end - h.order.start) (drop h.order.start text.now)) h.p h.n (outcome result) }
 {
     if !is_grevlex(text, h.order) {
-        return Check::Refuse(Refusal::OrderNotGrevlex);
+        return Err(Refusal::OrderNotGrevlex);
     }
     if !is_modulus(h.p) {
-        return Check::Refuse(Refusal::BadPrime);
+        return Err(Refusal::BadPrime);
     }
     if h.n < 1 || (MAX_VARIABLES as u32) < h.n {
-        return Check::Refuse(Refusal::BadVariableCount);
+        return Err(Refusal::BadVariableCount);
     }
-    Check::Pass
+    Ok(())
 }

@@ -10,13 +10,3 @@ pub mod basis;
 pub mod generator;
 pub mod header;
 pub mod term;
-
-use answer::Verdict;
-use lines::Shape;
-
-// The verdict on a text, and the shape of the basis that it holds if it passes.
-#[derive(Clone, Copy)]
-pub struct BasisRead {
-    pub verdict: Verdict,
-    pub shape: Shape,
-}

@@ -18,14 +18,7 @@ fn small_exponents(exponents: [u32; MAX_VARIABLES], n: usize) -> bool
     requires { n ≤ most_variables }
     ensures { (result ≡ true) ↔ Each (λ e. e ≤ most_exponent) (take n exponents) }
 {
-    let mut i: usize = 0;
-    while i < n {
-        if (MAX_EXPONENT as u32) < exponents[i] {
-            return false;
-        }
-        i += 1;
-    }
-    true
+    exponents[..n].iter().all(|&e| e <= MAX_EXPONENT as u32)
 }
 
 // The monomial with the exponents of a row.
@@ -34,10 +27,8 @@ pub fn monomial_of(exponents: [u32; MAX_VARIABLES], n: usize) -> Monomial
     ensures { result ≡ monomial n (as_row n (take n exponents)) }
 {
     let mut m = Monomial::one();
-    let mut i: usize = 0;
-    while i < n {
+    for i in 0..n {
         m.e[i] = Exponent(exponents[i] as u8);
-        i += 1;
     }
     m
 }
@@ -48,12 +39,12 @@ fn check_term(coefficient: u32, exponents: [u32; MAX_VARIABLES], p: u16, n: usiz
     ensures { check_term p (coefficient, take n exponents) pass (outcome result) }
 {
     if coefficient < 1 || (p as u32) <= coefficient {
-        return Check::Refuse(Refusal::BadCoefficient);
+        return Err(Refusal::BadCoefficient);
     }
     if !small_exponents(exponents, n) {
-        return Check::Refuse(Refusal::ExponentTooLarge);
+        return Err(Refusal::ExponentTooLarge);
     }
-    Check::Pass
+    Ok(())
 }
 
 // The first term of a line: 6, 7, 9.
@@ -61,14 +52,11 @@ pub fn check_first(coefficient: u32, exponents: [u32; MAX_VARIABLES], p: u16, n:
     requires { n ≤ most_variables }
     ensures { check_first p (coefficient, take n exponents) pass (outcome result) }
 {
-    let check = check_term(coefficient, exponents, p, n);
-    let Check::Pass = check else {
-        return check;
-    };
+    check_term(coefficient, exponents, p, n)?;
     if coefficient != 1 {
-        return Check::Refuse(Refusal::NotMonic);
+        return Err(Refusal::NotMonic);
     }
-    Check::Pass
+    Ok(())
 }
 
 // The term after the first j, of which the last has the monomial `before`: 10, 6, 7, 8.
@@ -84,14 +72,11 @@ pub fn check_next(
     ensures { (b : Term) → as_row n b.1 ≡ row n before → check_next p n (j + 1) b (coefficient, take n exponents) pass (outcome result) }
 {
     if MAX_TERMS <= j {
-        return Check::Refuse(Refusal::TooManyLinesOrTerms);
+        return Err(Refusal::TooManyLinesOrTerms);
     }
-    let check = check_term(coefficient, exponents, p, n);
-    let Check::Pass = check else {
-        return check;
-    };
+    check_term(coefficient, exponents, p, n)?;
     match monomial_of(exponents, n).compare_grevlex(before, n) {
-        Ordering::Less => Check::Pass,
-        _ => Check::Refuse(Refusal::TermsNotFalling),
+        Ordering::Less => Ok(()),
+        _ => Err(Refusal::TermsNotFalling),
     }
 }

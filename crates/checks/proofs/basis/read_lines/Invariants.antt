@@ -1,4 +1,4 @@
--- `read_lines` meets its contract (proofs/LinesLoop.antt).
+-- `read_lines` meets its contract (proofs/LinesLoop.antt). The loop's invariant: the arrays hold the lines read so far, and the lines that are left decide.
 use Prim.Native.Nat.{ℕ, ◌-◌}
 use mathlib.Core.List.{List}
 use lib.ListN.{length}
@@ -11,8 +11,8 @@ pub record Inv (p n : ℕ) (text : List ℕ) (start : ℕ) (ts cs es : List ℕ)
   pub arrays : Arrays ts cs es
   pub lines : LinesInv p n text start k (lines_in ts cs es) at
 
-abbrev pub invariant-loop-i : goal.invariant-loop-i
-invariant-loop-i l = Inv l.p l.n l.text l.start l.counts l.coefficients l.exponents l.k l.at
+abbrev pub invariant-loop-g : goal.invariant-loop-g
+invariant-loop-g l = Inv l.p l.n l.text l.start l.counts l.coefficients l.exponents l.k l.at
 
-abbrev pub decreases-loop-i : goal.decreases-loop-i
-decreases-loop-i l = length l.text - l.at
+abbrev pub decreases-loop-g : goal.decreases-loop-g
+decreases-loop-g l = length l.text - l.at

@@ -4,6 +4,7 @@ use mathlib.Core.Path.{◌≡◌, subst}
 use native.Mathlib.Omega.{arith}
 use lib.ListN.{length, take}
 use borrow.Author.Rules.{rules}
+use Rattle.std.proofs.lemmas.Result.{err_from_is_err_and}
 use Rattle.monomial.specs.Sizes.{most_variables}
 use Rattle.tabtext.specs.Answers as answers
 use Rattle.tabtext.specs.declared.terms.Next.TheVariants.{At}
@@ -35,27 +36,26 @@ returns-in_default c terms a h =
     let s = c.args in
     absurd (no-first _ s.text.now s.start terms a h (rw c.in_default.is at c.read_term-t.ensures))
 
-pub returns-in_default-check : goal.returns-in_default-check
-returns-in_default-check c terms a h =
-    let e = c.in_default-check.is in
-    rw e (line_refused _ _ _ _ _ _ _ _ (reads (goal.at.returns-in_default-check c).In-At) c.check_first-check.ensures _ e (omega arith) terms a h)
+pub returns-in_err-check_first : goal.returns-in_err-check_first
+returns-in_err-check_first c =
+    let e = err_from_is_err_and c.from_residual.result c.from_residual.ensures.1 in
+    rw (e.1, e.2) (λ terms a h. line_refused _ _ _ _ _ _ _ (reads (goal.at.returns-in_err-check_first c).In-At) _ _ c.in_err-check_first.ensures (omega arith) terms a h)
 
 pub monomial_of-m-requires : goal.monomial_of-m-requires
 monomial_of-m-requires c =
-    (omega arith, (good-first _ _ _ _ _ _ _ _ (reads (goal.at.monomial_of-m-requires c).In-At) c.check_first-check.ensures c.in-Pass.is).2)
+    (omega arith, (good-first _ _ _ _ _ _ _ (reads (goal.at.monomial_of-m-requires c).In-At) c.in_ok-check_first.ensures).2)
 
 pub of-requires : goal.of-requires
 of-requires c =
-    omega (arith, (good-first _ _ _ _ _ _ _ _ (reads (goal.at.of-requires c).In-At) c.check_first-check.ensures c.in-Pass.is).1)
+    omega (arith, (good-first _ _ _ _ _ _ _ (reads (goal.at.of-requires c).In-At) c.in_ok-check_first.ensures).1)
 
 pub read_later-requires : goal.read_later-requires
 read_later-requires c =
     let r = reads (goal.at.read_later-requires c).In-At in
-    let none = c.empty-none.ensures in
-    (c.requires.0, r.inside, padded-first _ _ _ _ _ _ _ _ r c.check_first-check.ensures c.in-Pass.is _ _ _ _ none (keeps (goal.at.read_later-requires c).After-of) c.with_term-first.ensures)
+    (c.requires.0, r.inside, padded-first _ _ _ _ _ _ _ r c.in_ok-check_first.ensures _ _ _ _ c.empty.ensures (keeps (goal.at.read_later-requires c).After-of) c.with_term-first.ensures)
 
 pub returns : goal.returns
 returns c =
     let l = c.read_later in
-    later _ _ _ _ _ _ _ _ (reads (goal.at.returns c).In-At) c.check_first-check.ensures c.in-Pass.is _ _ _ _ c.empty-none.ensures (keeps (goal.at.returns c).After-of) c.with_term-first.ensures
-    c.args.k l.result.check l.result.generator (omega (arith, c.if-k-gt-MAX_LINES.false)) (omega (arith, full (goal.at.returns c).After-read_term-t, c.requires)) l.ensures
+    later _ _ _ _ _ _ _ (reads (goal.at.returns c).In-At) c.in_ok-check_first.ensures _ _ _ _ c.empty.ensures (keeps (goal.at.returns c).After-of) c.with_term-first.ensures
+    c.args.k l.result (omega (arith, c.if-k-gt-MAX_LINES.false)) (omega (arith, full (goal.at.returns c).After-read_term-t, c.requires)) l.ensures

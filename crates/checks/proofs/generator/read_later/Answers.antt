@@ -2,16 +2,19 @@
 use Prim.Native.Nat.{◌+◌}
 use mathlib.Core.Path.{◌≡◌, sym, subst, ◌∙◌}
 use mathlib.Core.Bool.{true}
+use mathlib.Core.Option.{none, some}
 use native.Mathlib.Omega.{arith}
 use borrow.Author.Rules.{rules}
 use lib.ListN.{length, take, drop}
+use Rattle.std.proofs.lemmas.Result.{err_from_is_err_and}
+use Rattle.answer.specs.Refusals.{number}
 use Rattle.monomial.specs.Sizes.{most_variables}
 use Rattle.tabtext.specs.Readers.{starts_with}
 use Rattle.tabtext.specs.Answers as answers
 use Rattle.tabtext.specs.declared.terms.Next.TheVariants.{At}
 use Rattle.checks.proofs.KeptTerm.{KeepsTerm}
 use Rattle.checks.proofs.LaterTerms.{NextTerm, start, stop, no-later-term, refused, room, good, turn}
-use Rattle.checks.proofs.generator.read_later.Goals.{After-check_next-check, After-of, After-read_term-t, In-At}
+use Rattle.checks.proofs.generator.read_later.Goals.{After-of, After-read_term-t, In-At, In_err-check_next, In_ok-check_next}
 use Rattle.checks.proofs.generator.read_later.Goals as goal
 
 -- A tab stands before the term, and what was read is the term.
@@ -28,10 +31,15 @@ reads c =
 full : (c : After-read_term-t) → length c.read_term-t.result.row ≡ most_variables
 full c = search (c.read_term-t.type_inv, rules)
 
--- The term that stands next, and the answer to it.
-term : (c : After-check_next-check) → let a = c.args in let l = c.loop-last in let r = c.read_term-t.result in
-    NextTerm a.p a.n a.text.now l.g.terms l.last l.at c.in-At.i r.coefficient r.row c.check_next-check.result
-term c = record { tab = tab (goal.at.After-check_next-check c).After-read_term-t; reads = reads (goal.at.After-check_next-check c).In-At; says = c.check_next-check.ensures }
+-- The term that stands next, and that its checks pass.
+term : (c : In_ok-check_next) → let a = c.args in let l = c.loop-last in let r = c.read_term-t.result in
+    NextTerm a.p a.n a.text.now l.g.terms l.last l.at c.in-At.i r.coefficient r.row none
+term c = record { tab = tab (goal.at.In_ok-check_next c).After-read_term-t; reads = reads (goal.at.In_ok-check_next c).In-At; says = c.in_ok-check_next.ensures }
+
+-- The term that stands next, and the refusal.
+refusal : (c : In_err-check_next) → let a = c.args in let l = c.loop-last in let r = c.read_term-t.result in
+    NextTerm a.p a.n a.text.now l.g.terms l.last l.at c.in-At.i r.coefficient r.row (some (number c.in_err-check_next.field-0.0))
+refusal c = record { tab = tab (goal.at.In_err-check_next c).After-read_term-t; reads = reads (goal.at.In_err-check_next c).In-At; says = c.in_err-check_next.ensures }
 
 keeps : (c : After-of) → let a = c.args in let r = c.read_term-t.result in
     KeepsTerm a.p a.n (r.coefficient, take a.n r.row) c.of.result c.monomial_of-last.result
@@ -49,29 +57,29 @@ returns-in_default c =
     let missing = rw c.in_default.is at c.read_term-t.ensures in
     λ left before a h. let rest = i.rest left before a h in absurd (no-later-term _ _ c.loop-last.at rest.left rest.ahead (tab (goal.at.returns-in_default c).After-read_term-t) missing)
 
-pub returns-in_default-check : goal.returns-in_default-check
-returns-in_default-check c =
-    let e = c.in_default-check.is in
-    rw e (refused _ _ _ _ _ _ _ _ _ c.loop-last.invariant _ _ _ _ (term (goal.at.returns-in_default-check c).After-check_next-check) e)
+pub returns-in_err-check_next : goal.returns-in_err-check_next
+returns-in_err-check_next c =
+    let e = err_from_is_err_and c.from_residual.result c.from_residual.ensures.1 in
+    rw (e.1, e.2) (refused _ _ _ _ _ _ _ _ _ c.loop-last.invariant _ _ _ _ (refusal (goal.at.returns-in_err-check_next c).In_err-check_next))
 
 pub monomial_of-last-requires : goal.monomial_of-last-requires
 monomial_of-last-requires c =
-    (omega arith, (good _ _ _ _ _ _ _ _ _ c.loop-last.invariant _ _ _ _ (term (goal.at.monomial_of-last-requires c).After-check_next-check) c.in-Pass.is).2)
+    (omega arith, (good _ _ _ _ _ _ _ _ _ c.loop-last.invariant _ _ _ (term (goal.at.monomial_of-last-requires c).In_ok-check_next)).2)
 
 pub of-requires : goal.of-requires
 of-requires c =
-    omega (arith, (good _ _ _ _ _ _ _ _ _ c.loop-last.invariant _ _ _ _ (term (goal.at.of-requires c).After-check_next-check) c.in-Pass.is).1)
+    omega (arith, (good _ _ _ _ _ _ _ _ _ c.loop-last.invariant _ _ _ (term (goal.at.of-requires c).In_ok-check_next)).1)
 
 pub with_term-g-requires : goal.with_term-g-requires
 with_term-g-requires c =
-    room _ _ _ _ _ _ _ _ _ c.loop-last.invariant _ _ _ _ (term (goal.at.with_term-g-requires c).After-check_next-check) c.in-Pass.is
+    room _ _ _ _ _ _ _ _ _ c.loop-last.invariant _ _ _ (term (goal.at.with_term-g-requires c).In_ok-check_next)
 
 pub loop-last-smaller : goal.loop-last-smaller
-loop-last-smaller c = let t = (term (goal.at.loop-last-smaller c).After-check_next-check).reads in omega (arith, t.after, t.inside)
+loop-last-smaller c = let t = (term (goal.at.loop-last-smaller c).In_ok-check_next).reads in omega (arith, t.after, t.inside)
 
 pub loop-last-preserved : goal.loop-last-preserved
 loop-last-preserved c =
-    turn _ _ _ _ _ _ _ _ _ c.loop-last.invariant _ _ _ _ (term (goal.at.loop-last-preserved c).After-check_next-check) c.in-Pass.is
+    turn _ _ _ _ _ _ _ _ _ c.loop-last.invariant _ _ _ (term (goal.at.loop-last-preserved c).In_ok-check_next)
     (omega (arith, full (goal.at.loop-last-preserved c).After-read_term-t, c.requires.0)) (keeps (goal.at.loop-last-preserved c).After-of) c.with_term-g.ensures
 
 pub returns : goal.returns

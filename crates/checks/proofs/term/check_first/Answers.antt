@@ -1,18 +1,19 @@
 -- `check_first` meets its contract.
 use mathlib.Core.Path.{refl, sym}
 use mathlib.Core.Logic.{inl, inr}
+use Rattle.std.proofs.lemmas.Result.{err_from_is_err_and}
 use Rattle.checks.proofs.Sequence.{none-not-some, refuse-map, refuse-pass}
 use Rattle.checks.proofs.term.check_first.Goals as goal
 
-pub returns-in_default : goal.returns-in_default
-returns-in_default c =
-    let e = c.in_default.is in
-    rw e (refuse-map (refuse-map (λ h. none-not-some (sym h))) (rw e at c.check_term-check.ensures))
+pub returns-in_err-check_term : goal.returns-in_err-check_term
+returns-in_err-check_term c =
+    let e = err_from_is_err_and c.from_residual.result c.from_residual.ensures.1 in
+    rw (e.1, e.2) (refuse-map (refuse-map (λ h. none-not-some (sym h))) c.in_err-check_term.ensures)
 
 pub returns-then-coefficient-ne1 : goal.returns-then-coefficient-ne1
 returns-then-coefficient-ne1 c =
-    refuse-pass (refuse-pass (λ h. inl (c.if-coefficient-ne1.true, refl))) (rw c.in-Pass.is at c.check_term-check.ensures)
+    refuse-pass (refuse-pass (λ h. inl (c.if-coefficient-ne1.true, refl))) c.in_ok-check_term.ensures
 
 pub returns : goal.returns
 returns c =
-    refuse-pass (refuse-pass (λ h. inr (λ n. n c.if-coefficient-ne1.false, refl))) (rw c.in-Pass.is at c.check_term-check.ensures)
+    refuse-pass (refuse-pass (λ h. inr (λ n. n c.if-coefficient-ne1.false, refl))) c.in_ok-check_term.ensures

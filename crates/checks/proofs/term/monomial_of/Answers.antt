@@ -10,18 +10,18 @@ use Rattle.lines.proofs.AsRow.{exponent-take}
 use Rattle.checks.proofs.term.monomial_of.Goals as goal
 
 pub loop-i-init : goal.loop-i-init
-loop-i-init c = (omega arith, search rules, ap (λ m. m.e) c.one-m.ensures ∙ filled_none _ _)
+loop-i-init c = (search rules, ap (λ m. m.e) c.one-m.ensures ∙ filled_none _ _)
 
 pub overflow_cast-m : goal.overflow_cast-m
 overflow_cast-m c =
     let h : c.loop-i.i < c.args.n = omega arith in
-    omega (arith, (each_take (λ e. e ≤ most_exponent) 0 _ _ c.loop-i.invariant.1).0 c.requires.1 c.loop-i.i h)
+    omega (arith, (each_take (λ e. e ≤ most_exponent) 0 _ _ c.loop-i.invariant.0).0 c.requires.1 c.loop-i.i h)
 
 pub loop-i-preserved : goal.loop-i-preserved
 loop-i-preserved c =
     let n = c.args.n in
     let h : c.loop-i.i < n = omega arith in
-    (omega arith, c.loop-i.invariant.1, filled_more n c.loop-i.i _ _ h (omega arith) c.loop-i.invariant.2 (sym (exponent-take n c.loop-i.i _ h)))
+    (c.loop-i.invariant.0, filled_more n c.loop-i.i _ _ h (omega arith) c.loop-i.invariant.1 (sym (exponent-take n c.loop-i.i _ h)))
 
 pub returns : goal.returns
-returns c = filled-all _ c.loop-i.i _ (omega arith) (omega arith) c.loop-i.invariant.2
+returns c = filled-all _ c.loop-i.i _ (omega arith) (omega arith) c.loop-i.invariant.1

@@ -1,5 +1,5 @@
 -- `monomial_of` meets its contract. The loop's invariant: the first i exponents of the row are stored.
-use Prim.Native.Nat.{◌≤◌, ◌-◌}
+use Prim.Native.Nat.{◌≤◌}
 use mathlib.Core.Path.{◌≡◌}
 use lib.ListN.{length, take}
 use Rattle.monomial.proofs.Filling.{filled}
@@ -7,7 +7,4 @@ use Rattle.lines.specs.Terms.{as_row}
 use Rattle.checks.proofs.term.monomial_of.Given as goal
 
 abbrev pub invariant-loop-i : goal.invariant-loop-i
-invariant-loop-i l = (l.i ≤ l.n) × (l.n ≤ length l.exponents) × (l.m.e ≡ filled l.n (as_row l.n (take l.n l.exponents)) l.i)
-
-abbrev pub decreases-loop-i : goal.decreases-loop-i
-decreases-loop-i l = l.n - l.i
+invariant-loop-i l = (l.n ≤ length l.exponents) × (l.m.e ≡ filled l.n (as_row l.n (take l.n l.exponents)) l.i)
