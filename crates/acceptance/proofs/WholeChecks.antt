@@ -1,4 +1,5 @@
 -- The outcome of checks 12 to 15 on a basis of the code, from the answers of the parts that do them.
+--   Refuses b e                  the outcome of checks 12 to 15 is the refusal e
 --   says-refused                 the answer to a refused basis is its outcome
 --   whole-divided                12: an answer of `first_divided` that is not 0
 --   NotDivided b                 12 speaks of no line
@@ -12,6 +13,7 @@
 --   failing                      15: the answer no of `is_groebner`: the basis is as `first_failing` asks, and check 15 speaks of a line
 --   whole-failing                the answer of `first_failing`
 --   whole-passes                 the answer yes: the basis passes
+use Rattle.std.specs.Prelude.{Ok, Err}
 use mathlib.Core.Path.{◌≡◌, refl, sym, ◌∙◌, ap, subst}
 use mathlib.Core.Bool.{Bool, true, false, false≢true}
 use mathlib.Core.List.{List}
@@ -33,9 +35,7 @@ use Rattle.monomial.specs.declared.Monomial.{Monomial}
 use Rattle.monomial.proofs.LexOrder.{lex-order}
 use Rattle.monomial.proofs.GrevlexOrder.{grevlex-order}
 use Rattle.answer.specs.Outcomes.{Judged, passed, refuse◌at_smallest◌else◌, refuse◌at_0_if◌else◌}
-use Rattle.answer.specs.declared.Verdict.{Verdict}
-use Rattle.answer.specs.declared.Verdict.TheVariants.{Passed, Refused}
-use Rattle.answer.specs.declared.Refusal.{Refusal}
+use Rattle.answer.specs.declared.Refused.{Refused}
 use Rattle.answer.specs.declared.Refusal.TheVariants.{NotReduced, NotZeroDimensional, TooManyStandardMonomials, NotGroebner}
 use Rattle.groebner.specs.Lines.{Lines, Reducible}
 use Rattle.groebner.specs.Criteria.{Clear}
@@ -68,7 +68,7 @@ use Rattle.multiplication.specs.Criterion.{Acceptance}
 use Rattle.multiplication.specs.Rows.{most_cells, tables_of}
 use Rattle.division.specs.PairRemainders.{Pairable, FirstFailing}
 use Rattle.division.proofs.LowPairs.{low-pairs}
-use Rattle.acceptance.specs.Answers.{WholeVerdict, LeadsPass, WholeSays}
+use Rattle.acceptance.specs.Answers.{WholeVerdict, LeadsPass, Convertible, WholeSays}
 use Rattle.acceptance.proofs.SmallestRefused.{smallest-refuses}
 use Rattle.acceptance.proofs.WholeOutcome.{Passing, passing-iff}
 
@@ -77,15 +77,18 @@ abbrev Passes : Judged Unit → Type 0
 Passes o = o ≡ passed tt
 
 module _ (b : StoredBasis) where
-  pub says-refused : {r : Refusal} {line : ℕ} (v : Verdict) (l : Irreducibles) (cells : List ℕ) → length cells ≡ most_cells → v ≡ Refused r line
-      → WholeVerdict b (Refused r line) → WholeSays b v l cells
-  says-refused v l cells size e o = record { size = size; verdict = subst (WholeVerdict b) (sym e) o; convertible = λ q. let z : ◌≡◌ {A = ℕ} 0 1 = cc in absurd (omega arith) }
+  -- The checks refuse the basis so.
+  abbrev pub Refuses : Refused → Type 0
+  Refuses e = WholeVerdict {T = Irreducibles} b (Err e)
+
+  pub says-refused : (e : Refused) (cells : List ℕ) → length cells ≡ most_cells → Refuses e → WholeSays b (Err e) cells
+  says-refused e cells size o = record { size = size; verdict = o; convertible = λ l q. let z : ◌≡◌ {A = ℕ} 0 1 = cc in absurd (omega arith) }
 
   -- 12 speaks of no line.
   abbrev pub NotDivided : Type 0
   NotDivided = (h : 1 < b.p) (k : ℕ) → ¬ Divided (modulo b.p h) (monomials b.n) (stored_lines b h) k
 
-  pub whole-divided : (k : ℕ) → FirstDivided b k → ¬ (k ≡ 0) → WholeVerdict b (Refused NotReduced k)
+  pub whole-divided : (k : ℕ) → FirstDivided b k → ¬ (k ≡ 0) → Refuses (record { refusal = NotReduced; line = k })
   whole-divided k first some h = smallest-refuses 12 (
       refuse 13 at_0_if ¬ ZeroDimensional b.n (stored_lines b h) else
       refuse 14 at_0_if Large b.n (stored_lines b h) else
@@ -100,7 +103,7 @@ module _ (b : StoredBasis) where
     zero-dimensional-leads h = subst (λ (L : List (Row b.n)). Powers b.n L ↔ ZeroDimensional b.n (stored_lines b h)) (sym (leads.1 h)) (power-of-leads b.n (stored_lines b h))
 
     module _ (t : Bool) (says : (t ≡ true) ↔ Powers b.n (rows_of b.n count ms)) (u : NotDivided) where
-      pub whole-not-zero-dimensional : t ≡ false → WholeVerdict b (Refused NotZeroDimensional 0)
+      pub whole-not-zero-dimensional : t ≡ false → Refuses (record { refusal = NotZeroDimensional; line = 0 })
       whole-not-zero-dimensional e h = inr (u h, inl (λ z. false≢true (sym e ∙ says.1 ((zero-dimensional-leads h).1 z)), refl))
 
       pub leads-pass : t ≡ true → LeadsPass b
@@ -122,7 +125,7 @@ module _ (b : StoredBasis) where
             (ap (λ f. irreducibles b.n (next b.n (variables b.n)) f most_standard) (sym (ap (multiple b.n) (leads.1 h) ∙ multiple-leads b.n (stored_lines b h))) ∙ counted)
             (irreducibles-of-lines b.n ord (next b.n (variables b.n)) (next-lex b.n (variables b.n) (variables-ranking b.n)) (stored_lines b h) most_standard)
 
-    pub whole-large : LeadsPass b → (many : Bool) (B : List (Row b.n)) → Counted many B → many ≡ true → WholeVerdict b (Refused TooManyStandardMonomials 0)
+    pub whole-large : LeadsPass b → (many : Bool) (B : List (Row b.n)) → Counted many B → many ≡ true → Refuses (record { refusal = TooManyStandardMonomials; line = 0 })
     whole-large pass many B counted e h = inr ((pass h).0, inr (λ z. z (pass h).1, inl (large B (subst (λ t. Counted t B) e counted) h, refl)))
 
   pub lines_clear : LeadsPass b → (h : 1 < b.p) → Clear (modulo b.p h) (monomials b.n) (stored_lines b h)
@@ -137,7 +140,7 @@ module _ (b : StoredBasis) where
     pairable : Pairable b
     pairable = let h = sound.modulus.prime.above_one in record { sound = sound; low = low-pairs b sound filled.lines h (pass h).0 (pass h).1 (not-large h) }
 
-    pub whole-failing : (k : ℕ) → FirstFailing b (Some k) → WholeVerdict b (Refused NotGroebner k)
+    pub whole-failing : (k : ℕ) → FirstFailing b (Some k) → Refuses (record { refusal = NotGroebner; line = k })
     whole-failing k first h = inr ((pass h).0, inr (λ z. z (pass h).1, inr (not-large h, inl (k, (first h).0, (first h).1, refl))))
 
     abbrev prime : 1 < b.p → Prime b.p
@@ -160,14 +163,14 @@ module _ (b : StoredBasis) where
       passing : a ≡ true → (h : 1 < b.p) → Passing b.p (prime h) b.n (stored_lines b h)
       passing e h = record { undivided = (pass h).0; dimension = λ z. z (pass h).1; unfailing = (accepted h).1 e }
 
-      pub whole-passes : length cells ≡ most_cells → a ≡ true → WholeSays b Passed l cells
+      pub whole-passes : length cells ≡ most_cells → a ≡ true → WholeSays b (Ok l) cells
       whole-passes size e = record {
         size = size;
         verdict = λ h. let w = passing e h in inr (w.undivided, inr (w.dimension, inr (not-large h, inr (w.unfailing, refl))));
-        convertible = λ _. record {
+        convertible = λ k q. let same : l ≡ k = cc in subst (λ k. Convertible b k (tables_of cells)) same (record {
           reduced = λ h. ((passing-iff b.p (prime h) b.n (stored_lines b h) (lines h)).0 (passing e h)).0;
           irreducibles = irreducible;
           below = acceptance.below;
           filled = acceptance.filled;
-        };
+        });
       }

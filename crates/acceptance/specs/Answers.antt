@@ -1,11 +1,12 @@
 -- Inner contracts. What the answers to checks 12 to 15 and to checks 2 to 15 say of a basis of the code.
---   WholeVerdict b v         v is the outcome of checks 12 to 15
+--   WholeVerdict b r         r is the outcome of checks 12 to 15
 --   LeadsPass b              checks 12 and 13, by the leading monomials, speak of nothing
 --   PassedTo13 leads b       b is sound besides, and has these leading monomials
 --   Convertible b l t        what a basis that passes has for the conversion: a reduced Groebner basis, its irreducible monomials, its multiplication rows
---   WholeSays b v l cells    the answer to checks 12 to 15
---   TextSays s v l cells b   the answer to checks 2 to 15 of a text
-use Rattle.std.specs.Prelude.{ℕ, ◌<◌, ◌≡◌, List, length}
+--   WholeSays b r cells      the answer to checks 12 to 15
+--   with_shape shape r       that answer, with the shape of the basis
+--   TextSays                 the answer to checks 2 to 15 of a text
+use Rattle.std.specs.Prelude.{ℕ, ◌<◌, ◌≡◌, List, length, Result, Ok, Err}
 use Rattle.lists.specs.Lists.{Bytes}
 use Rattle.residue.specs.Field.{modulo}
 use Rattle.monomial.specs.Rows.{one}
@@ -13,13 +14,12 @@ use Rattle.monomial.specs.Ordering.{monomials, Grevlex}
 use Rattle.answer.specs.Outcomes.{refused, passed}
 use Rattle.answer.specs.Refusals.{number}
 use Rattle.answer.specs.Verdicts.{judged}
-use Rattle.answer.specs.declared.Refusal.{Refusal}
-use Rattle.answer.specs.declared.Verdict.{Verdict}
-use Rattle.answer.specs.declared.Verdict.TheVariants.{Passed, Refused}
+use Rattle.answer.specs.declared.Refused.{Refused}
 use Rattle.groebner.specs.Bases.{Reduced}
 use Rattle.groebner.specs.Standard.{ZeroDimensional}
 use Rattle.groebner.specs.MultiplicationRows.{Filled}
-use Rattle.lines.specs.Bases.{StoredBasis}
+use Rattle.lines.specs.Bases.{StoredBasis, basis_in}
+use Rattle.lines.specs.declared.Shape.{Shape}
 use Rattle.checks.specs.Checks.{Checked}
 use Rattle.checks.specs.Answers.{basis_of}
 use Rattle.staircase.specs.StoredLines.{stored_lines}
@@ -31,10 +31,11 @@ use Rattle.staircase.specs.declared.leads.Leads.{Leads}
 use Rattle.staircase.specs.declared.irreducible.Irreducibles.{Irreducibles}
 use Rattle.multiplication.specs.Rows.{AllBelow, cell_of, Tables, most_cells, tables_of}
 use Rattle.acceptance.specs.Whole.{Whole}
+use Rattle.acceptance.specs.declared.PassedText.{PassedText}
 
--- The verdict v is the outcome of checks 12 to 15.
-abbrev pub WholeVerdict : StoredBasis → Verdict → Type 0
-WholeVerdict b v = (h : 1 < b.p) → Whole b.p h b.n (stored_lines b h) (λ o. o ≡ passed tt) (judged {A = Unit} v tt)
+-- The answer r is the outcome of checks 12 to 15.
+abbrev pub WholeVerdict : {T : Type 0} → StoredBasis → Result T Refused → Type 0
+WholeVerdict b r = (h : 1 < b.p) → Whole b.p h b.n (stored_lines b h) (λ o. o ≡ passed tt) (judged {A = Unit} r tt)
 
 -- Checks 12 and 13, by the leading monomials, speak of nothing.
 abbrev pub LeadsPass : StoredBasis → Type 0
@@ -54,12 +55,18 @@ pub record Convertible (b : StoredBasis) (l : Irreducibles) (t : Tables) : Type 
   pub filled : (h : 1 < b.p) (i : ℕ) → i < b.n → (s : ℕ) → s < l.count → Filled (modulo b.p h) b.n (stored_lines b h) (listed b.n l) (one b.n) (cell_of b.p h t) i s
 
 -- The answer to checks 12 to 15: the outcome, and what the conversion works on if the basis passes.
-pub record WholeSays (b : StoredBasis) (v : Verdict) (l : Irreducibles) (cells : List ℕ) : Type 0 where
+pub record WholeSays (b : StoredBasis) (r : Result Irreducibles Refused) (cells : List ℕ) : Type 0 where
   pub size : length cells ≡ most_cells
-  pub verdict : WholeVerdict b v
-  pub convertible : v ≡ Passed → Convertible b l (tables_of cells)
+  pub verdict : WholeVerdict b r
+  pub convertible : (l : Irreducibles) → r ≡ Ok l → Convertible b l (tables_of cells)
 
--- The answer to checks 2 to 15 of a text s: refused by 2 to 11; or it holds the basis b, and the answer is that to 12 to 15.
-pub data TextSays (s : Bytes) (v : Verdict) (l : Irreducibles) (cells : List ℕ) (b : StoredBasis) : Type 0 where
-  lines_refused : {r : Refusal} {line : ℕ} → v ≡ Refused r line → Checked s (refused (number r) line) → TextSays s v l cells b
-  lines_passed : Checked s (passed (basis_of b)) → WholeSays b v l cells → TextSays s v l cells b
+-- The answer to checks 12 to 15, with the shape of the basis if it passes.
+abbrev pub with_shape : Shape → Result Irreducibles Refused → Result PassedText Refused
+with_shape shape (Ok l) = Ok (record { shape = shape; irreducibles = l })
+with_shape shape (Err e) = Err e
+
+-- The answer to checks 2 to 15 of a text s: refused by 2 to 11; or the arrays hold the basis of a shape, and the answer is that to 12 to 15.
+pub data TextSays (s : Bytes) (r : Result PassedText Refused) (ts cs es cells : List ℕ) : Type 0 where
+  lines_refused : {e : Refused} → r ≡ Err e → Checked s (refused (number e.refusal) e.line) → TextSays s r ts cs es cells
+  lines_passed : (shape : Shape) (whole : Result Irreducibles Refused) → Checked s (passed (basis_of (basis_in shape ts cs es)))
+      → WholeSays (basis_in shape ts cs es) whole cells → r ≡ with_shape shape whole → TextSays s r ts cs es cells

@@ -1,7 +1,7 @@
 -- Inner contracts. The outcomes that the answers of the checks say.
 --   outcome c    the number that a line is refused with, or none
 --   judged v a   the outcome that a verdict says
-use Rattle.std.specs.Prelude.{ℕ, ⊤, Result, Ok, Err}
+use Rattle.std.specs.Prelude.{ℕ, Result, Ok, Err}
 use Rattle.std.proofs.Math.Option.{Option, none, some}
 use Rattle.answer.specs.Refusals.{number}
 use Rattle.answer.specs.Outcomes.{Judged, refused, passed}
@@ -14,6 +14,6 @@ outcome (Ok x) = none
 outcome (Err r) = some (number r)
 
 -- The outcome that a verdict says; a is what the text comes to if it passes.
-abbrev pub judged : {A : Type 0} → Result ⊤ Refused → A → Judged A
+abbrev pub judged : {T A : Type 0} → Result T Refused → A → Judged A
 judged (Ok x) a = passed a
 judged (Err e) a = refused (number e.refusal) e.line

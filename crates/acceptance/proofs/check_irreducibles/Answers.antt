@@ -1,5 +1,5 @@
 -- `check_irreducibles` meets its contract (proofs/WholeChecks.antt).
-use mathlib.Core.Path.{◌≡◌, refl, sym, ◌∙◌}
+use mathlib.Core.Path.{◌≡◌, sym, ◌∙◌}
 use Prim.Native.Nat.{◌≤◌}
 use native.Mathlib.Omega.{arith}
 use borrow.Author.Rules.{rules}
@@ -44,7 +44,7 @@ pub returns-then-l : goal.returns-then-l
 returns-then-l c =
     let (none, s) = c.requires in
     let large = whole-large _ _ _ s.basis.leading s.basis.pass _ _ c.list_irreducibles-l.ensures.0 c.if-l.true in
-    (c.refused.ensures.0, says-refused _ _ _ _ (no-rows-length none) c.refused.ensures.1 large)
+    rw c.at.ensures (says-refused _ _ _ (no-rows-length none) large)
 
 pub by_grevlex-s-requires : goal.by_grevlex-s-requires
 by_grevlex-s-requires c = (c.requires.1.basis.sound.variables.most, c.list_irreducibles-l.ensures.1)
@@ -66,12 +66,12 @@ is_groebner-requires c =
       },
     )
 
-pub failing_line-requires : goal.failing_line-requires
-failing_line-requires c =
+pub failing_line-line-requires : goal.failing_line-line-requires
+failing_line-line-requires c =
     let s = c.requires.1 in
     let b = s.basis in
     let (size, accepted) = c.is_groebner.ensures in
-    record { arrays = s.arrays; basis = failing _ b.sound (filled (goal.at.failing_line-requires c).Start) b.pass _ (irreducible (goal.at.failing_line-requires c).After-by_grevlex-s) (full (goal.at.failing_line-requires c).After-by_grevlex-s) _ _ accepted c.if-not-is_groebner.true }
+    record { arrays = s.arrays; basis = failing _ b.sound (filled (goal.at.failing_line-line-requires c).Start) b.pass _ (irreducible (goal.at.failing_line-line-requires c).After-by_grevlex-s) (full (goal.at.failing_line-line-requires c).After-by_grevlex-s) _ _ accepted c.if-not-is_groebner.true }
 
 pub shape_of-cells-then-not-is_groebner : goal.shape_of-cells-then-not-is_groebner
 shape_of-cells-then-not-is_groebner c = c.is_groebner.ensures.0 ∙ sym (no-rows-length c.requires.0)
@@ -80,8 +80,8 @@ pub returns-then-not-is_groebner : goal.returns-then-not-is_groebner
 returns-then-not-is_groebner c =
     let b = c.requires.1.basis in
     let (size, accepted) = c.is_groebner.ensures in
-    let whole = whole-failing _ b.sound (filled (goal.at.returns-then-not-is_groebner c).Start) b.pass _ (irreducible (goal.at.returns-then-not-is_groebner c).After-by_grevlex-s) (full (goal.at.returns-then-not-is_groebner c).After-by_grevlex-s) _ c.failing_line.ensures in
-    (c.refused-then-not-is_groebner.ensures.0, says-refused _ _ _ _ size c.refused-then-not-is_groebner.ensures.1 whole)
+    let whole = whole-failing _ b.sound (filled (goal.at.returns-then-not-is_groebner c).Start) b.pass _ (irreducible (goal.at.returns-then-not-is_groebner c).After-by_grevlex-s) (full (goal.at.returns-then-not-is_groebner c).After-by_grevlex-s) _ c.failing_line-line.ensures in
+    rw c.at-then-not-is_groebner.ensures (says-refused _ _ _ size whole)
 
 pub shape_of-cells : goal.shape_of-cells
 shape_of-cells c = c.is_groebner.ensures.0 ∙ sym (no-rows-length c.requires.0)
@@ -90,4 +90,4 @@ pub returns : goal.returns
 returns c =
     let b = c.requires.1.basis in
     let (size, accepted) = c.is_groebner.ensures in
-    (refl, whole-passes _ b.sound (filled (goal.at.returns c).Start) b.pass _ (irreducible (goal.at.returns c).After-by_grevlex-s) (full (goal.at.returns c).After-by_grevlex-s) _ _ accepted size c.if-not-is_groebner.false)
+    whole-passes _ b.sound (filled (goal.at.returns c).Start) b.pass _ (irreducible (goal.at.returns c).After-by_grevlex-s) (full (goal.at.returns c).After-by_grevlex-s) _ _ accepted size c.if-not-is_groebner.false

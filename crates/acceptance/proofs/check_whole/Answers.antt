@@ -39,7 +39,7 @@ first_divided-k-requires c = let s = c.requires.1 in record { arrays = s.arrays;
 pub returns-then-k-ne0 : goal.returns-then-k-ne0
 returns-then-k-ne0 c =
     let some : ¬ (c.first_divided-k.result ≡ 0) = λ e. omega arith in
-    (c.refused.ensures.0, says-refused _ _ _ _ (no-rows-length c.requires.0) c.refused.ensures.1 (whole-divided _ _ c.first_divided-k.ensures some))
+    rw c.at.ensures (says-refused _ _ _ (no-rows-length c.requires.0) (whole-divided _ _ c.first_divided-k.ensures some))
 
 pub zero_dimensional-requires : goal.zero_dimensional-requires
 zero_dimensional-requires c =
@@ -50,7 +50,7 @@ pub returns-then-not-zero_dimensional : goal.returns-then-not-zero_dimensional
 returns-then-not-zero_dimensional c =
     let no = c.if-not-zero_dimensional.true in
     let whole = whole-not-zero-dimensional _ _ _ (leads-are (goal.at.returns-then-not-zero_dimensional c).After-of-leads) _ c.zero_dimensional.ensures (clear (goal.at.returns-then-not-zero_dimensional c).After-zero_dimensional) no in
-    (c.refused-then-not-zero_dimensional.ensures.0, says-refused _ _ _ _ (no-rows-length c.requires.0) c.refused-then-not-zero_dimensional.ensures.1 whole)
+    rw c.at-then-not-zero_dimensional.ensures (says-refused _ _ _ (no-rows-length c.requires.0) whole)
 
 pub check_irreducibles-requires : goal.check_irreducibles-requires
 check_irreducibles-requires c =
@@ -60,7 +60,7 @@ check_irreducibles-requires c =
 
 pub shape_of-cells : goal.shape_of-cells
 shape_of-cells c =
-    c.check_irreducibles.ensures.1.size ∙ sym (no-rows-length c.requires.0)
+    c.check_irreducibles.ensures.size ∙ sym (no-rows-length c.requires.0)
 
 pub returns : goal.returns
 returns c = c.check_irreducibles.ensures

@@ -1,43 +1,27 @@
 -- `check_text` meets its contract (proofs/ReadBasis.antt).
-use mathlib.Core.Path.{sym, ◌∙◌}
-use Rattle.multiplication.proofs.AllRows.{no-rows-length}
-use Rattle.acceptance.proofs.ReadBasis.{read-passed, read-sound, text-whole, text-refused}
+use mathlib.Core.Path.{refl}
+use Rattle.std.specs.Prelude.{Err}
+use Rattle.std.proofs.lemmas.Result.{err_from_is_err_and}
+use Rattle.acceptance.specs.Answers.{lines_refused, lines_passed}
+use Rattle.acceptance.proofs.ReadBasis.{read-sound}
 use Rattle.acceptance.proofs.text.check_text.Goals as goal
+
+pub returns-in_err-shape-clause-text : goal.returns-in_err-shape-clause-text
+returns-in_err-shape-clause-text c =
+    let e = err_from_is_err_and c.from_residual.result c.from_residual.ensures.1 in
+    rw (e.1, e.2) (lines_refused refl c.in_err-shape.ensures.basis)
 
 pub check_whole-requires : goal.check_whole-requires
 check_whole-requires c =
-    let s = c.read_basis-r.ensures in
-    (c.requires.1, record { arrays = s.arrays; basis = read-sound _ c.read_basis-r.result.shape _ _ _ (read-passed _ _ _ c.in-Passed.is s.basis) })
+    let s = c.in_ok-shape.ensures in
+    (c.requires.1, record { arrays = s.arrays; basis = read-sound _ _ _ _ _ s.basis })
 
-pub returns-in-Passed : goal.returns-in-Passed
-returns-in-Passed c =
-    let (same, whole) = c.check_whole.ensures in
-    text-whole _ _ _ _ _ _ same _ _ _ _ c.read_basis-r.ensures c.in-Passed.is whole
+pub returns-in_err-irreducibles-clause-text : goal.returns-in_err-irreducibles-clause-text
+returns-in_err-irreducibles-clause-text c =
+    let r = c.from_residual-in_err-irreducibles in
+    let e = err_from_is_err_and r.result r.ensures.1 in
+    rw (e.1, e.2) (lines_passed c.in_ok-shape.shape (Err c.in_err-irreducibles.field-0.0) c.in_ok-shape.ensures.basis.0 c.in_err-irreducibles.ensures refl)
 
-pub returns-in-Refused : goal.returns-in-Refused
-returns-in-Refused c =
-    text-refused _ _ _ _ _ _ c.refused.ensures.0 _ _ _ _ c.read_basis-r.ensures _ _ c.in-Refused.is c.refused.ensures.1
-
-pub read_basis-r-requires : goal.read_basis-r-requires
-read_basis-r-requires c = c.requires.0
-
-pub shape_of-counts-in-Passed : goal.shape_of-counts-in-Passed
-shape_of-counts-in-Passed c = c.read_basis-r.ensures.arrays.terms ∙ sym c.requires.0.terms
-
-pub shape_of-coefficients-in-Passed : goal.shape_of-coefficients-in-Passed
-shape_of-coefficients-in-Passed c = c.read_basis-r.ensures.arrays.coefficients ∙ sym c.requires.0.coefficients
-
-pub shape_of-exponents-in-Passed : goal.shape_of-exponents-in-Passed
-shape_of-exponents-in-Passed c = c.read_basis-r.ensures.arrays.exponents ∙ sym c.requires.0.exponents
-
-pub shape_of-cells : goal.shape_of-cells
-shape_of-cells c = c.check_whole.ensures.1.size ∙ sym (no-rows-length c.requires.1)
-
-pub shape_of-counts-in-Refused : goal.shape_of-counts-in-Refused
-shape_of-counts-in-Refused c = c.read_basis-r.ensures.arrays.terms ∙ sym c.requires.0.terms
-
-pub shape_of-coefficients-in-Refused : goal.shape_of-coefficients-in-Refused
-shape_of-coefficients-in-Refused c = c.read_basis-r.ensures.arrays.coefficients ∙ sym c.requires.0.coefficients
-
-pub shape_of-exponents-in-Refused : goal.shape_of-exponents-in-Refused
-shape_of-exponents-in-Refused c = c.read_basis-r.ensures.arrays.exponents ∙ sym c.requires.0.exponents
+pub returns-clause-text : goal.returns-clause-text
+returns-clause-text c =
+    lines_passed c.in_ok-shape.shape _ c.in_ok-shape.ensures.basis.0 c.in_ok-irreducibles.ensures refl
