@@ -33,14 +33,14 @@ use Rattle.lines.proofs.AsRow.{padded-monomial}
 use Rattle.lines.proofs.OneMoreTerm.{held-longer}
 use Rattle.tabtext.specs.Readers.{bad, starts_with, read_term}
 use Rattle.tabtext.specs.Answers as answers
-use Rattle.tabtext.specs.declared.terms.Next.TheVariants.{At}
+use Rattle.tabtext.specs.declared.terms.RawTerm.{RawTerm}
 use Rattle.checks.specs.Checks.{check_first, check_generator}
 use Rattle.checks.specs.Answers.{Ahead, LaterSays, GeneratorSays}
 use Rattle.checks.proofs.GoodLines.{GoodTerm, passes-term}
 use Rattle.checks.proofs.KeptTerm.{KeepsTerm, kept}
 use Rattle.checks.proofs.Sequence.{first-refused, first-passed}
 use Rattle.checks.proofs.LaterTerms.{next-term, no-later-term}
-use Rattle.std.specs.Prelude.{Result, Ok, Err}
+use Rattle.std.specs.Prelude.{Result, Ok, Err, Some}
 
 pub too_many : (p n k : ℕ) (terms : List Term) → 1 ≤ length terms → most_lines < k → check_generator p n k terms (some 10)
 too_many p n k [] h g = absurd (omega arith)
@@ -55,10 +55,9 @@ pub no-first : (n : ℕ) (text : Bytes) (start : ℕ) (terms : List Term) → Ah
 no-first n text start terms a h = no-later-term n text start terms a (tab n (drop start text) terms a h)
 
 -- The first term stands at the place.
-module _ (p n : ℕ) (text : Bytes) (start i coefficient : ℕ) (exponents : List ℕ)
-    (reads : answers.TermSays n text (start + 1) (At i) coefficient exponents) where
+module _ (p n : ℕ) (text : Bytes) (start i : ℕ) (term : RawTerm) (reads : answers.TermSays n text (start + 1) (Some (term, i))) where
   abbrev t : Term
-  t = (coefficient, take n exponents)
+  t = (term.coefficient, take n term.row)
 
   pub line_refused : (k : ℕ) (r : Refusal) → check_first p t pass (some (number r)) → k ≤ most_lines → (terms : List Term) → Ahead n (drop start text) terms →
       1 ≤ length terms → check_generator p n k terms (some (number r))
@@ -76,13 +75,13 @@ module _ (p n : ℕ) (text : Bytes) (start i coefficient : ℕ) (exponents : Lis
       pub padded-first : PaddedLine n one
       padded-first = held-longer n line one longer (omega (arith, none), rw none tt) (padded-monomial n _ keeps.monomial)
 
-      only : n ≤ length exponents → terms_in n one ≡ t ∷ []
+      only : n ≤ length term.row → terms_in n one ≡ t ∷ []
       unfolding terms_in
       only h =
           let l = longer.terms n in
-          l ∙ rw (none, kept p n t keeps good-first (length-take-le n exponents h))
+          l ∙ rw (none, kept p n t keeps good-first (length-take-le n term.row h))
 
-      line-says : (k : ℕ) (left : List Term) (r : Result Generator Refusal) → k ≤ most_lines → n ≤ length exponents → LaterSays p n one t left r →
+      line-says : (k : ℕ) (left : List Term) (r : Result Generator Refusal) → k ≤ most_lines → n ≤ length term.row → LaterSays p n one t left r →
           GeneratorSays p n k (t ∷ left) r
       line-says k left (Ok g) b h l =
           let count : suc one.terms ≡ 2 = ap suc (longer.count ∙ ap suc none) in
@@ -91,7 +90,7 @@ module _ (p n : ℕ) (text : Bytes) (start i coefficient : ℕ) (exponents : Lis
           let count : suc one.terms ≡ 2 = ap suc (longer.count ∙ ap suc none) in
           inr (λ g. omega arith, first-passed p t passes (rw count at l))
 
-      pub later : (k : ℕ) (r : Result Generator Refusal) → k ≤ most_lines → n ≤ length exponents →
+      pub later : (k : ℕ) (r : Result Generator Refusal) → k ≤ most_lines → n ≤ length term.row →
           ((left : List Term) (before : Term) → Ahead n (drop i text) left → as_row n before.1 ≡ row n m → LaterSays p n one before left r) →
           (terms : List Term) → Ahead n (drop start text) terms → 1 ≤ length terms → GeneratorSays p n k terms r
       later k r b h rest terms a g =

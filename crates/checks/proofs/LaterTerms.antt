@@ -38,14 +38,14 @@ use Rattle.lines.proofs.AsRow.{as_row-exponents, padded-monomial}
 use Rattle.lines.proofs.OneMoreTerm.{held-longer}
 use Rattle.tabtext.specs.Readers.{got, bad, starts_with, read_term}
 use Rattle.tabtext.specs.Answers as answers
-use Rattle.tabtext.specs.declared.terms.Next.TheVariants.{At}
+use Rattle.tabtext.specs.declared.terms.RawTerm.{RawTerm}
 use Rattle.tabtext.proofs.Steps.{got-value, got-rest, got-not-bad}
 use Rattle.checks.specs.Checks.{check_next, check_terms}
 use Rattle.checks.specs.Answers.{Ahead, LaterSays}
 use Rattle.checks.proofs.GoodLines.{GoodTerm, skipped, passes-term}
 use Rattle.checks.proofs.KeptTerm.{KeepsTerm, kept}
 use Rattle.checks.proofs.Sequence.{next-refused, next-passed}
-use Rattle.std.specs.Prelude.{Ok, Err}
+use Rattle.std.specs.Prelude.{Ok, Err, Some}
 
 -- A term stands next: it is the first of those ahead.
 pub record Split (n : ℕ) (t : Term) (rest : Bytes) (left : List Term) : Type 0 where
@@ -70,10 +70,10 @@ module _ (n : ℕ) (text : Bytes) (at : ℕ) where
   no_more (t ∷ left) a e = absurd (false≢true (sym e ∙ a.1))
 
 -- A term stands at the place `at`, up to i, after the first j of a line, the last of which has the monomial `last`; o is the outcome of its checks.
-pub record NextTerm (p n : ℕ) (text : Bytes) (j : ℕ) (last : Monomial) (at i coefficient : ℕ) (exponents : List ℕ) (o : Option ℕ) : Type 0 where
+pub record NextTerm (p n : ℕ) (text : Bytes) (j : ℕ) (last : Monomial) (at i : ℕ) (term : RawTerm) (o : Option ℕ) : Type 0 where
   pub tab : starts_with 9 (drop at text) ≡ true
-  pub reads : answers.TermSays n text (at + 1) (At i) coefficient exponents
-  pub says : (b : Term) → as_row n b.1 ≡ row n last → check_next p n (j + 1) b (coefficient, take n exponents) pass o
+  pub reads : answers.TermSays n text (at + 1) (Some (term, i))
+  pub says : (b : Term) → as_row n b.1 ≡ row n last → check_next p n (j + 1) b (term.coefficient, take n term.row) pass o
 
 module _ (p n : ℕ) (text : Bytes) (line : Generator) where
   -- The terms `first` after those of `line`, the last of which is `before₀`: what is left of them at the place `at`, after those of g.
@@ -106,18 +106,18 @@ module _ (p n : ℕ) (text : Bytes) (line : Generator) where
           let q = no_more n text at r.left r.ahead e in
           (r.checks none (rw q refl), sym (append-nil _) ∙ (rw q at r.terms), inv.held)
 
-      module _ (i coefficient : ℕ) (exponents : List ℕ) where
+      module _ (i : ℕ) (term : RawTerm) where
         abbrev t : Term
-        t = (coefficient, take n exponents)
+        t = (term.coefficient, take n term.row)
 
-        pub refused : (k : Refusal) → NextTerm p n text g.terms last at i coefficient exponents (some (number k)) → (first : List Term) (before : Term) →
+        pub refused : (k : Refusal) → NextTerm p n text g.terms last at i term (some (number k)) → (first : List Term) (before : Term) →
             Ahead n (drop begin text) first → as_row n before.1 ≡ row n m → LaterSays p n line before first (Err k)
         refused k next first before a h =
             let r = inv.rest first before a h in
             let q = next-term n text at r.left r.ahead next.tab next.reads.reads in
             r.checks (some (number k)) (rw q.cons (next-refused p n (suc g.terms) r.before t (rw add-one at (next.says r.before r.holds))))
 
-        module _ (next : NextTerm p n text g.terms last at i coefficient exponents none) where
+        module _ (next : NextTerm p n text g.terms last at i term none) where
           -- It passes after the last term, whatever the coefficient of that one.
           own : check_next p n (g.terms + 1) (0, exponents_of n last) t pass none
           own = next.says (0, exponents_of n last) (as_row-exponents n last)
@@ -128,7 +128,7 @@ module _ (p n : ℕ) (text : Bytes) (line : Generator) where
           pub good : GoodTerm p t
           good = (passes-term p t (skipped own).1).0
 
-          pub turn : {g' : Generator} {x : Residue} {m' : Monomial} → n ≤ length exponents → KeepsTerm p n t x m' → Longer g x m' g' → Inv g' m' i
+          pub turn : {g' : Generator} {x : Residue} {m' : Monomial} → n ≤ length term.row → KeepsTerm p n t x m' → Longer g x m' g' → Inv g' m' i
           turn {g'} h k l = record {
             inside = next.reads.inside;
             held = held-longer n g g' l inv.held (padded-monomial n _ k.monomial);
@@ -140,7 +140,7 @@ module _ (p n : ℕ) (text : Bytes) (line : Generator) where
                   before = t;
                   ahead = q.ahead;
                   holds = sym (rw k.monomial (row-monomial n _));
-                  terms = rw (l.terms n, append_assoc, kept p n t k good (length-take-le n exponents h)) (rw q.cons at r.terms);
+                  terms = rw (l.terms n, append_assoc, kept p n t k good (length-take-le n term.row h)) (rw q.cons at r.terms);
                   checks = λ o d. r.checks o (rw q.cons (next-passed p n (suc g.terms) r.before t (rw add-one at (next.says r.before r.holds)) (rw l.count at d)));
                 };
           }

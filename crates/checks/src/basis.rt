@@ -11,7 +11,7 @@ use answer::{Refusal, Refused, Verdict};
 use lines::Shape;
 use lines::line::Generator;
 use lines::store::put_line;
-use tabtext::record::{Kind, Read, read_record};
+use tabtext::record::{Kind, read_record};
 
 // The end line after k poly lines, after which the text goes on at `next`.
 fn check_end(text: &[u8], count: u32, next: usize, k: usize) -> Verdict
@@ -38,7 +38,7 @@ fn read_line(
     requires { (n ≤ most_variables) × (at ≤ length text.now) × (k ≤ most_lines) }
     ensures { LineSays p n k text.now at result }
 {
-    let Read::Found(record, next) = read_record(text, at, n, k + 2) else {
+    let Some((record, next)) = read_record(text, at, n, k + 2) else {
         return Err(Refusal::BadLine.at(k + 2));
     };
     let kind = record.kind;
@@ -92,7 +92,7 @@ pub fn read_basis(
     ensures arrays { Arrays counts.new coefficients.new exponents.new }
     ensures basis { BasisSays text.now result counts.new coefficients.new exponents.new }
 {
-    let Read::Found(record, next) = read_record(text, 0, 0, 1) else {
+    let Some((record, next)) = read_record(text, 0, 0, 1) else {
         return Err(Refusal::BadLine.at(1));
     };
     let kind = record.kind;

@@ -12,7 +12,7 @@ use lines::line::{Generator, empty, with_term};
 use lines::sizes::MAX_LINES;
 use monomial::Monomial;
 use residue::Residue;
-use tabtext::terms::{Next, byte_is, read_term};
+use tabtext::terms::{byte_is, read_term};
 
 // The terms of a line and those that follow them in the text, if these pass; the last of the line has the monomial m.
 fn read_later(
@@ -30,17 +30,14 @@ fn read_later(
     let mut g = line;
     let mut last = m;
     let mut at = start;
-    while byte_is(text, at, 9) {
-        let t = read_term(text, at + 1, n);
-        let next = t.next;
-        let Next::At(i) = next else {
+    while byte_is(text, at, b'\t') {
+        let Some((term, next)) = read_term(text, at + 1, n) else {
             return Err(Refusal::BadLine);
         };
-        let row = t.row;
-        check_next(t.coefficient, row, g.terms, last, p, n)?;
-        last = monomial_of(row, n);
-        g = with_term(g, Residue::of(t.coefficient, p), last);
-        at = i;
+        check_next(term, g.terms, last, p, n)?;
+        last = monomial_of(term.row, n);
+        g = with_term(g, Residue::of(term.coefficient, p), last);
+        at = next;
     }
     Ok(g)
 }
@@ -60,14 +57,11 @@ pub fn check_generator(
     if MAX_LINES < k {
         return Err(Refusal::TooManyLinesOrTerms);
     }
-    let t = read_term(text, start + 1, n);
-    let next = t.next;
-    let Next::At(i) = next else {
+    let Some((term, next)) = read_term(text, start + 1, n) else {
         return Err(Refusal::BadLine);
     };
-    let row = t.row;
-    check_first(t.coefficient, row, p, n)?;
-    let m = monomial_of(row, n);
-    let first = with_term(empty(), Residue::of(t.coefficient, p), m);
-    read_later(text, i, p, n, first, m)
+    check_first(term, p, n)?;
+    let m = monomial_of(term.row, n);
+    let first = with_term(empty(), Residue::of(term.coefficient, p), m);
+    read_later(text, next, p, n, first, m)
 }

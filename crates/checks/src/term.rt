@@ -12,6 +12,7 @@ use answer::{Check, Refusal};
 use lines::sizes::MAX_TERMS;
 use monomial::{Exponent, MAX_EXPONENT, MAX_VARIABLES, Monomial};
 use std::cmp::Ordering;
+use tabtext::terms::RawTerm;
 
 // Whether no exponent is over 32.
 fn small_exponents(exponents: [u32; MAX_VARIABLES], n: usize) -> bool
@@ -34,48 +35,42 @@ pub fn monomial_of(exponents: [u32; MAX_VARIABLES], n: usize) -> Monomial
 }
 
 // A term: 6, 7.
-fn check_term(coefficient: u32, exponents: [u32; MAX_VARIABLES], p: u16, n: usize) -> Check
+fn check_term(term: RawTerm, p: u16, n: usize) -> Check
     requires { n ≤ most_variables }
-    ensures { check_term p (coefficient, take n exponents) pass (outcome result) }
+    ensures { check_term p (term.coefficient, take n term.row) pass (outcome result) }
 {
+    let coefficient = term.coefficient;
     if coefficient < 1 || (p as u32) <= coefficient {
         return Err(Refusal::BadCoefficient);
     }
-    if !small_exponents(exponents, n) {
+    if !small_exponents(term.row, n) {
         return Err(Refusal::ExponentTooLarge);
     }
     Ok(())
 }
 
 // The first term of a line: 6, 7, 9.
-pub fn check_first(coefficient: u32, exponents: [u32; MAX_VARIABLES], p: u16, n: usize) -> Check
+pub fn check_first(term: RawTerm, p: u16, n: usize) -> Check
     requires { n ≤ most_variables }
-    ensures { check_first p (coefficient, take n exponents) pass (outcome result) }
+    ensures { check_first p (term.coefficient, take n term.row) pass (outcome result) }
 {
-    check_term(coefficient, exponents, p, n)?;
-    if coefficient != 1 {
+    check_term(term, p, n)?;
+    if term.coefficient != 1 {
         return Err(Refusal::NotMonic);
     }
     Ok(())
 }
 
 // The term after the first j, of which the last has the monomial `before`: 10, 6, 7, 8.
-pub fn check_next(
-    coefficient: u32,
-    exponents: [u32; MAX_VARIABLES],
-    j: usize,
-    before: Monomial,
-    p: u16,
-    n: usize,
-) -> Check
+pub fn check_next(term: RawTerm, j: usize, before: Monomial, p: u16, n: usize) -> Check
     requires { n ≤ most_variables }
-    ensures { (b : Term) → as_row n b.1 ≡ row n before → check_next p n (j + 1) b (coefficient, take n exponents) pass (outcome result) }
+    ensures { (b : Term) → as_row n b.1 ≡ row n before → check_next p n (j + 1) b (term.coefficient, take n term.row) pass (outcome result) }
 {
     if MAX_TERMS <= j {
         return Err(Refusal::TooManyLinesOrTerms);
     }
-    check_term(coefficient, exponents, p, n)?;
-    match monomial_of(exponents, n).compare_grevlex(before, n) {
+    check_term(term, p, n)?;
+    match monomial_of(term.row, n).compare_grevlex(before, n) {
         Ordering::Less => Ok(()),
         _ => Err(Refusal::TermsNotFalling),
     }

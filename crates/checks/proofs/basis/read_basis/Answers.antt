@@ -7,30 +7,30 @@ use borrow.Author.Rules.{rules}
 use Rattle.std.proofs.lemmas.Result.{err_from_is_err_and}
 use Rattle.lists.specs.Lists.{Bytes}
 use Rattle.tabtext.specs.declared.record.Header.{Header}
-use Rattle.tabtext.proofs.Records.{RecordLine, record-found, record-bad}
+use Rattle.tabtext.proofs.Records.{RecordLine, record-found, record-none}
 use Rattle.checks.specs.Checks.{check_header}
 use Rattle.checks.proofs.BasisLine.{BasisLine, basis-of-found, no-basis-line, other-line, basis-refused, lines-decide}
 use Rattle.checks.proofs.OtherErrors.{kept-value, old-error}
-use Rattle.checks.proofs.basis.read_basis.Goals.{In-Found, In-Header, In_ok-map_err}
+use Rattle.checks.proofs.basis.read_basis.Goals.{In-Some, In-Header, In_ok-map_err}
 use Rattle.checks.proofs.basis.read_basis.Goals as goal
 
 -- The text, and the place after the first line.
-abbrev text : In-Found → Bytes
+abbrev text : In-Some → Bytes
 text c = c.args.text.now
 
-abbrev next : In-Found → ℕ
-next c = c.in-Found.next
+abbrev next : In-Some → ℕ
+next c = c.in-Some.next
 
 -- The record of the first line.
-first : (c : In-Found) → RecordLine 0 1 (text c) 0 c.in-Found.record (next c)
-first c = record-found 0 1 (text c) 0 c.in-Found.record (next c) (omega arith) (sym c.read_record.ensures ∙ c.in-Found.is)
+first : (c : In-Some) → RecordLine 0 1 (text c) 0 c.in-Some.record (next c)
+first c = record-found 0 1 (text c) 0 c.in-Some.record (next c) (omega arith) (sym c.read_record.ensures ∙ c.in-Some.is)
 
 -- It is a basis line, and passes.
 abbrev head : In-Header → Header
 head c = c.in-Header.h
 
-line : (c : In-Header) → BasisLine (text (goal.at.In-Header c).In-Found) (head c) (next (goal.at.In-Header c).In-Found)
-line c = basis-of-found _ _ _ (first (goal.at.In-Header c).In-Found) c.in-Header.is
+line : (c : In-Header) → BasisLine (text (goal.at.In-Header c).In-Some) (head c) (next (goal.at.In-Header c).In-Some)
+line c = basis-of-found _ _ _ (first (goal.at.In-Header c).In-Some) c.in-Header.is
 
 passes : (c : In_ok-map_err) → check_header (line (goal.at.In_ok-map_err c).In-Header).order (head (goal.at.In_ok-map_err c).In-Header).p (head (goal.at.In_ok-map_err c).In-Header).n none
 passes c =
@@ -39,12 +39,12 @@ passes c =
 
 pub returns-in_default-clause-basis : goal.returns-in_default-clause-basis
 returns-in_default-clause-basis c =
-    rw c.at.ensures (no-basis-line _ (record-bad 0 1 _ 0 (sym c.read_record.ensures ∙ c.in_default.is)))
+    rw c.at.ensures (no-basis-line _ (record-none 0 1 _ 0 (sym c.read_record.ensures ∙ c.in_default.is)))
 
 pub returns-in_default-kind-clause-basis : goal.returns-in_default-kind-clause-basis
 returns-in_default-kind-clause-basis c =
-    let f = first (goal.at.returns-in_default-kind-clause-basis c).In-Found in
-    rw c.at-in_default-kind.ensures (other-line _ (next (goal.at.returns-in_default-kind-clause-basis c).In-Found) f.reads (λ h q. c.in_default-kind.not-Header _ (f.kind ∙ q)))
+    let f = first (goal.at.returns-in_default-kind-clause-basis c).In-Some in
+    rw c.at-in_default-kind.ensures (other-line _ (next (goal.at.returns-in_default-kind-clause-basis c).In-Some) f.reads (λ h q. c.in_default-kind.not-Header _ (f.kind ∙ q)))
 
 pub check_header-requires : goal.check_header-requires
 check_header-requires c = let l = line c in (l.begins, l.ends)

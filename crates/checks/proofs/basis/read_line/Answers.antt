@@ -5,31 +5,31 @@ use native.Mathlib.Omega.{arith}
 use borrow.Author.Rules.{rules}
 use Rattle.std.proofs.lemmas.Result.{err_from_is_err_and}
 use Rattle.lists.specs.Lists.{Bytes}
-use Rattle.tabtext.proofs.Records.{RecordLine, record-found, record-bad}
+use Rattle.tabtext.proofs.Records.{RecordLine, record-found, record-none}
 use Rattle.checks.proofs.OtherErrors.{kept-value, old-error}
 use Rattle.checks.proofs.LineVerdicts.{none-stands, other-stands, poly-refused}
 use Rattle.checks.proofs.FoundKinds.{GeneratorKind, poly-of-found, poly-passed, end-of-found, other-kind}
-use Rattle.checks.proofs.basis.read_line.Goals.{In-End, In-Found, In-Generator}
+use Rattle.checks.proofs.basis.read_line.Goals.{In-End, In-Some, In-Generator}
 use Rattle.checks.proofs.basis.read_line.Goals as goal
 
 -- The text, and the place after the line.
-abbrev text : In-Found → Bytes
+abbrev text : In-Some → Bytes
 text c = c.args.text.now
 
-abbrev next : In-Found → ℕ
-next c = c.in-Found.next
+abbrev next : In-Some → ℕ
+next c = c.in-Some.next
 
 -- The record of the line.
-line : (c : In-Found) → let a = c.args in RecordLine a.n (a.k + 2) (text c) a.at c.in-Found.record (next c)
-line c = record-found _ _ (text c) c.args.at c.in-Found.record (next c) (omega arith) (sym c.read_record.ensures ∙ c.in-Found.is)
+line : (c : In-Some) → let a = c.args in RecordLine a.n (a.k + 2) (text c) a.at c.in-Some.record (next c)
+line c = record-found _ _ (text c) c.args.at c.in-Some.record (next c) (omega arith) (sym c.read_record.ensures ∙ c.in-Some.is)
 
 -- It is a poly line.
-poly : (c : In-Generator) → let a = c.args in GeneratorKind a.n (text (goal.at.In-Generator c).In-Found) a.at c.in-Generator.span.start (next (goal.at.In-Generator c).In-Found)
-poly c = poly-of-found _ _ _ _ _ _ (line (goal.at.In-Generator c).In-Found) c.in-Generator.is
+poly : (c : In-Generator) → let a = c.args in GeneratorKind a.n (text (goal.at.In-Generator c).In-Some) a.at c.in-Generator.span.start (next (goal.at.In-Generator c).In-Some)
+poly c = poly-of-found _ _ _ _ _ _ (line (goal.at.In-Generator c).In-Some) c.in-Generator.is
 
 pub returns-in_default : goal.returns-in_default
 returns-in_default c =
-    rw c.at.ensures (none-stands _ _ _ _ (record-bad _ _ _ c.args.at (sym c.read_record.ensures ∙ c.in_default.is)))
+    rw c.at.ensures (none-stands _ _ _ _ (record-none _ _ _ c.args.at (sym c.read_record.ensures ∙ c.in_default.is)))
 
 pub check_generator-requires : goal.check_generator-requires
 check_generator-requires c = (omega arith, (poly c).begins)
@@ -54,15 +54,15 @@ pub returns-in_err-check_end-in-End : goal.returns-in_err-check_end-in-End
 returns-in_err-check_end-in-End c =
     let r = c.from_residual-in_err-check_end-in-End in
     let e = err_from_is_err_and r.result r.ensures.1 in
-    rw (e.1, e.2) (c.in_err-check_end-in-End.ensures _ _ _ (end-of-found _ _ _ _ _ _ (line (goal.at.returns-in_err-check_end-in-End c).In-Found) c.in-End.is))
+    rw (e.1, e.2) (c.in_err-check_end-in-End.ensures _ _ _ (end-of-found _ _ _ _ _ _ (line (goal.at.returns-in_err-check_end-in-End c).In-Some) c.in-End.is))
 
 pub returns-in_ok-check_end-in-End : goal.returns-in_ok-check_end-in-End
 returns-in_ok-check_end-in-End c =
-    c.in_ok-check_end-in-End.ensures _ _ _ (end-of-found _ _ _ _ _ _ (line (goal.at.returns-in_ok-check_end-in-End c).In-Found) c.in-End.is)
+    c.in_ok-check_end-in-End.ensures _ _ _ (end-of-found _ _ _ _ _ _ (line (goal.at.returns-in_ok-check_end-in-End c).In-Some) c.in-End.is)
 
 pub returns-in_default-kind : goal.returns-in_default-kind
 returns-in_default-kind c =
-    let f = line (goal.at.returns-in_default-kind c).In-Found in
-    rw c.at-in_default-kind.ensures (other-stands _ _ _ _ f.reads (other-kind c.args.at (next (goal.at.returns-in_default-kind c).In-Found) f.text
+    let f = line (goal.at.returns-in_default-kind c).In-Some in
+    rw c.at-in_default-kind.ensures (other-stands _ _ _ _ f.reads (other-kind c.args.at (next (goal.at.returns-in_default-kind c).In-Some) f.text
     (λ span q. c.in_default-kind.not-Generator _ (f.kind ∙ q))
     (λ count q. c.in_default-kind.not-End _ (f.kind ∙ q))))

@@ -10,10 +10,10 @@ returns-in_err-check_term c =
     let e = err_from_is_err_and c.from_residual.result c.from_residual.ensures.1 in
     rw (e.1, e.2) (refuse-map (refuse-map (λ h. none-not-some (sym h))) c.in_err-check_term.ensures)
 
-pub returns-then-coefficient-ne1 : goal.returns-then-coefficient-ne1
-returns-then-coefficient-ne1 c =
-    refuse-pass (refuse-pass (λ h. inl (c.if-coefficient-ne1.true, refl))) c.in_ok-check_term.ensures
+pub returns-then-term-ne1 : goal.returns-then-term-ne1
+returns-then-term-ne1 c =
+    refuse-pass (refuse-pass (λ h. inl (c.if-term-ne1.true, refl))) c.in_ok-check_term.ensures
 
 pub returns : goal.returns
 returns c =
-    refuse-pass (refuse-pass (λ h. inr (λ n. n c.if-coefficient-ne1.false, refl))) c.in_ok-check_term.ensures
+    refuse-pass (refuse-pass (λ h. inr (λ n. n c.if-term-ne1.false, refl))) c.in_ok-check_term.ensures

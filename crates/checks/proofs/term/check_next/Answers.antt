@@ -24,7 +24,7 @@ grevlex-rows : (n : ℕ) (a : Row n) {b k : Row n} {m : Monomial} → m ≡ mono
 grevlex-rows n a p q = rw (p, row-monomial, q)
 
 abbrev term : In_ok-check_term → Term
-term c = let a = c.args in (a.coefficient, take a.n a.exponents)
+term c = let a = c.args in (a.term.coefficient, take a.n a.term.row)
 
 passes : (c : In_ok-check_term) → check_term c.args.p (term c) pass none
 passes c = c.in_ok-check_term.ensures
@@ -38,7 +38,9 @@ returns-in_err-check_term c b e =
     rw (q.1, q.2) (inr (λ h. omega arith, refuse-map (refuse-map (λ h. none-not-some (sym h))) c.in_err-check_term.ensures))
 
 pub monomial_of-requires : goal.monomial_of-requires
-monomial_of-requires c = (omega arith, (passes-term _ (term c) (passes c)).0.2)
+monomial_of-requires c =
+    let k = (goal.at.monomial_of-requires c).In_ok-check_term in
+    (omega arith, (passes-term _ (term k) (passes k)).0.2)
 
 pub returns-in-Less : goal.returns-in-Less
 returns-in-Less c b e =
