@@ -17,7 +17,8 @@ use Rattle.monomial.specs.Orders.{variables}
 use Rattle.monomial.specs.Ordering.{monomials, Lex, Grevlex}
 use Rattle.monomial.proofs.Products.{rows-laws}
 use Rattle.answer.specs.Finished.{Finished}
-use Rattle.answer.specs.declared.Answer.{Answer}
+use Rattle.answer.specs.declared.Refused.{Refused}
+use Rattle.std.specs.Prelude.{Result}
 use Rattle.groebner.specs.Lines.{Line}
 use Rattle.groebner.specs.Bases.{Reduced}
 use Rattle.groebner.specs.Criteria.{Clear, Low}
@@ -81,5 +82,5 @@ module _ (b : StoredBasis) (l : Irreducibles) (cells : List ℕ) (basis : Passed
         prime : Prime b.p
         prime = modulus.prime
 
-    pub finished-basis : (was left : Bytes) (a : Answer) → ((h : 1 < b.p) → Finished (written_of b.p h b.n r) was left a) → FinishedBasis b was left a
+    pub finished-basis : (was left : Bytes) (a : Result ℕ Refused) → ((h : 1 < b.p) → Finished (written_of b.p h b.n r) was left a) → FinishedBasis b was left a
     finished-basis was left a f h = (H h, found_standard b.n r, converts h, f h)

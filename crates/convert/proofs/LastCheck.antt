@@ -3,6 +3,7 @@
 --   finished-enough    it is not: the output is written from the first byte on
 --   finished-outcome   the outcome of check 16, which the answer and the bytes are
 use Prim.Native.Nat.{ℕ, ◌<◌}
+use Rattle.std.specs.Prelude.{Result, Ok, Err}
 use mathlib.Core.Path.{◌≡◌, refl, ap, ◌∙◌}
 use mathlib.Core.List.{◌++◌}
 use mathlib.Core.Logic.{inl, inr, by_cases}
@@ -16,22 +17,21 @@ use Rattle.answer.specs.Outcomes.{Judged, refused, passed}
 use Rattle.answer.specs.Answers.{pair, returned, after}
 use Rattle.answer.specs.Finished.{Finished}
 use Rattle.answer.specs.declared.Refusal.TheVariants.{OutputTooShort}
-use Rattle.answer.specs.declared.Answer.{Answer}
-use Rattle.answer.specs.declared.Answer.TheVariants.{Accepted, Refused}
+use Rattle.answer.specs.declared.Refused.{Refused}
 use Rattle.tabtext.specs.Written.{Written}
 use Rattle.convert.specs.Outcome.{Fits}
 
 module _ (out was : Bytes) where
-  pub finished-short : length was < length out → Finished out was was (Refused OutputTooShort 0)
+  pub finished-short : length was < length out → Finished out was was (Err (record { refusal = OutputTooShort; line = 0 }))
   finished-short h = record { short = λ _. (refl, refl); enough = λ e. absurd (e h) }
 
   whole : ¬ (length was < length out) → sets was 0 out ≡ out ++ drop (length out) was
   whole e = sets-eq out was 0 (omega arith) ∙ rw zero-add
 
-  pub finished-enough : {now : Bytes} {n : ℕ} → ¬ (length was < length out) → Written was 0 out now n → Finished out was now (Accepted n)
-  finished-enough e w = record { short = λ h. absurd (e h); enough = λ _. (ap Accepted (omega (arith, w.place)), w.bytes ∙ whole e) }
+  pub finished-enough : {now : Bytes} {n : ℕ} → ¬ (length was < length out) → Written was 0 out now n → Finished out was now (Ok n)
+  finished-enough e w = record { short = λ h. absurd (e h); enough = λ _. (ap Ok (omega (arith, w.place)), w.bytes ∙ whole e) }
 
-  pub finished-outcome : {left : Bytes} {r : Answer} → Finished out was left r
+  pub finished-outcome : {left : Bytes} {r : Result ℕ Refused} → Finished out was left r
       → (o : Judged Bytes) × Fits (length was) out o × (pair r ≡ returned o) × (left ≡ after o was)
   finished-outcome w = by_cases (dec_lt (length was) (length out))
       (λ h. (refused 16 0, inl (h, refl), ap pair (w.short h).0, (w.short h).1))

@@ -16,7 +16,8 @@ use Rattle.monomial.specs.Sizes.{most_variables, most_exponent}
 use Rattle.monomial.specs.Rows.{Row, exponent}
 use Rattle.answer.specs.Outcomes.{Judged, refused, passed}
 use Rattle.answer.specs.Answers.{pair, returned}
-use Rattle.answer.specs.declared.Answer.{Answer}
+use Rattle.answer.specs.declared.Refused.{Refused}
+use Rattle.std.specs.Prelude.{Result}
 use Rattle.groebner.specs.Lines.{Line, polynomial}
 use Rattle.groebner.proofs.Lists.{of_map}
 use Rattle.lines.specs.Sizes.{most_standard}
@@ -105,7 +106,7 @@ never-16 : (input : Bytes) (o : Judged Bytes) → Outcome input most_bytes o →
 never-16 input (refused k line) w e = room-suffices input line (subst (λ k. Outcome input most_bytes (refused k line)) e w)
 never-16 input (passed out) w e = omega arith
 
-pub program-answer : {input was left : Bytes} {a : Answer} → most_bytes ≡ length was → Meets input was left a
+pub program-answer : {input was left : Bytes} {a : Result ℕ Refused} → most_bytes ≡ length was → Meets input was left a
     → ((o : Judged Bytes) × Outcome input most_bytes o × (pair a ≡ returned o)) × (¬ ((pair a).0 ≡ 16))
 program-answer {input} {a = a} size m =
     let (o, w, e, l) = m.outcome in

@@ -16,8 +16,8 @@ use lib.ListN.{length, drop, get_or, get_or-append}
 use Rattle.lists.specs.Lists.{Bytes, Each}
 use Rattle.answer.specs.Outcomes.{passed}
 use Rattle.answer.specs.Answers.{after}
-use Rattle.answer.specs.declared.Answer.{Answer}
-use Rattle.answer.specs.declared.Answer.TheVariants.{Accepted}
+use Rattle.answer.specs.declared.Refused.{Refused}
+use Rattle.std.specs.Prelude.{Result, Ok}
 use Rattle.tabtext.specs.Sizes.{most_bytes}
 use Rattle.tabtext.specs.Text.{bytes}
 use Rattle.convert.specs.Outcome.{Outcome}
@@ -54,12 +54,12 @@ one-alone-follows = dotted-follow.1.0
 
 -- Whatever the answer, and whatever follows these bytes.
 abbrev pub Wrong : Bytes → Bytes → Type 0
-Wrong input front = (was rest : Bytes) (a : Answer) → most_bytes ≡ length was → ¬ Meets input was (front ++ rest) a
+Wrong input front = (was rest : Bytes) (a : Result ℕ Refused) → most_bytes ≡ length was → ¬ Meets input was (front ++ rest) a
 
 pub wrong-at : (input out front : Bytes) (i : ℕ) → Outcome input most_bytes (passed out) → i < length front → i < length out → ¬ (get_or front i 0 ≡ get_or out i 0) → Wrong input front
 wrong-at input out front i right in-front in-out differ was rest a size m =
-    let other = meets-of input was (after (passed out) was) (Accepted (length out)) (passed out, subst (λ room. Outcome input room (passed out)) size right, refl, refl) in
-    let (_, same) = functional input was (front ++ rest) (after (passed out) was) a (Accepted (length out)) m other in
+    let other = meets-of input was (after (passed out) was) (Ok (length out)) (passed out, subst (λ room. Outcome input room (passed out)) size right, refl, refl) in
+    let (_, same) = functional input was (front ++ rest) (after (passed out) was) a (Ok (length out)) m other in
     differ (sym (get_or-append front rest 0 i in-front) ∙ ap (λ s. get_or s i 0) same ∙ get_or-append out (drop (length out) was) 0 i in-out)
 
 pub prints-the-example : Wrong one_alone example_output

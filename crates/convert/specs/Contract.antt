@@ -4,7 +4,7 @@
 --   Usable input               the text is, line by line, a reduced grevlex Groebner basis of the stated sizes
 --   Systems                    demand 3, of the lines read from the input and from the output
 --   Meets                      all of it
-use Rattle.std.specs.Prelude.{ℕ, ◌<◌, ◌≡◌, List, [], ◌∷◌, ◌++◌, map, length, take}
+use Rattle.std.specs.Prelude.{ℕ, ◌<◌, ◌≡◌, List, [], ◌∷◌, ◌++◌, map, length, take, Result, Ok}
 use Rattle.lists.specs.Lists.{Bytes, Each}
 use Rattle.residue.specs.Prime.{Modulus}
 use Rattle.residue.specs.Field.{ZMod, modulo}
@@ -14,8 +14,7 @@ use Rattle.monomial.specs.Orders.{variables}
 use Rattle.monomial.specs.Ordering.{monomials, Lex, Grevlex}
 use Rattle.answer.specs.Answers.{pair, returned, after}
 use Rattle.answer.specs.Outcomes.{Judged}
-use Rattle.answer.specs.declared.Answer.{Answer}
-use Rattle.answer.specs.declared.Answer.TheVariants.{Accepted}
+use Rattle.answer.specs.declared.Refused.{Refused}
 use Rattle.groebner.specs.Lines.{Line, Reducible}
 use Rattle.groebner.specs.Bases.{Reduced}
 use Rattle.groebner.specs.Standard.{Finite}
@@ -73,10 +72,10 @@ pub record Systems (input out : Bytes) : Type 0 where
   pub equivalent : Equivalent (modulo p h) (monomials n) (record { lt = Grevlex n; lines = first }) (record { lt = Lex n (variables n); lines = second })
 
 -- The input, the output bytes before and after, and the answer.
-pub record Meets (input was left : Bytes) (answer : Answer) : Type 0 where
+pub record Meets (input was left : Bytes) (answer : Result ℕ Refused) : Type 0 where
   -- Demands 1 and 2: the answer is that of the outcome, and so are the bytes.
   pub outcome : (o : Judged Bytes) × Outcome input (length was) o × (pair answer ≡ returned o) × (left ≡ after o was)
   -- Demand 2, last sentence: what is usable is refused only where the output is too short.
   pub usable : Usable input → (k line : ℕ) → pair answer ≡ (k, line) → ¬ (k ≡ 0) → k ≡ 16
   -- Demand 3.
-  pub systems : (size : ℕ) → answer ≡ Accepted size → Systems input (take size left)
+  pub systems : (size : ℕ) → answer ≡ Ok size → Systems input (take size left)

@@ -1,14 +1,14 @@
 -- Inner contracts. The conversion of a basis that passed checks 2 to 15, and check 16 (document 01, refusal 16).
 --   PassedBasis l cells b         b passed checks 2 to 15, and has the irreducible monomials l and the multiplication rows `cells`
 --   FinishedBasis b was left r    what the output bytes `was` and the answer come to
-use Rattle.std.specs.Prelude.{ℕ, ◌<◌, ◌≡◌, List, length}
+use Rattle.std.specs.Prelude.{ℕ, ◌<◌, ◌≡◌, List, length, Result}
 use Rattle.lists.specs.Lists.{Bytes}
 use Rattle.residue.specs.Prime.{Modulus}
 use Rattle.residue.specs.Field.{ZMod}
 use Rattle.monomial.specs.Sizes.{VariableCount}
 use Rattle.monomial.specs.Rows.{Row}
 use Rattle.answer.specs.Finished.{Finished}
-use Rattle.answer.specs.declared.Answer.{Answer}
+use Rattle.answer.specs.declared.Refused.{Refused}
 use Rattle.groebner.specs.Lines.{Line}
 use Rattle.lines.specs.Bases.{StoredBasis}
 use Rattle.staircase.specs.StoredLines.{stored_lines}
@@ -26,6 +26,6 @@ pub record PassedBasis (l : Irreducibles) (cells : List ℕ) (b : StoredBasis) :
   pub convertible : Convertible b l (tables_of cells)
 
 -- The output is that of the lex basis and its standard monomials.
-abbrev pub FinishedBasis : StoredBasis → Bytes → Bytes → Answer → Type 0
+abbrev pub FinishedBasis : StoredBasis → Bytes → Bytes → Result ℕ Refused → Type 0
 FinishedBasis b was left r = (h : 1 < b.p) → (H : List (Line (ZMod b.p) (Row b.n))) × (B : List (Row b.n))
     × Converts b.p h b.n (stored_lines b h) H B × Finished (written b.p h b.n H B) was left r

@@ -14,7 +14,7 @@ ghost use Rattle.convert.specs.Contract.{Meets};
 
 use crate::print::{output_width, put_output};
 use acceptance::text::check_text;
-use answer::{Answer, Refusal, Verdict};
+use answer::{Answer, Refusal};
 use fglm::enumeration::enumerate;
 use fglm::lex_basis::LexShape;
 use lines::Shape;
@@ -42,9 +42,9 @@ fn finish(
     ensures { let lent = lex_in lex counts.now coefficients.now exponents.now in ((h : 1 < p) → Finished (written_of p h n lent) output.old output.new result) }
 {
     if output.len() < output_width(counts, coefficients, exponents, lex, p, n) {
-        return Answer::Refused(Refusal::OutputTooShort, 0);
+        return Err(Refusal::OutputTooShort.at(0));
     }
-    Answer::Accepted(put_output(&mut *output, counts, coefficients, exponents, lex, p, n))
+    Ok(put_output(&mut *output, counts, coefficients, exponents, lex, p, n))
 }
 
 // The conversion of a basis that passed checks 2 to 15, with its irreducible monomials and multiplication rows; and check 16.
@@ -88,32 +88,26 @@ pub fn convert(input: &[u8], output: &mut [u8]) -> Answer
     ensures { Meets input.now output.old output.new result }
 {
     if MAX_BYTES < input.len() {
-        return Answer::Refused(Refusal::InputTooLong, 0);
+        return Err(Refusal::InputTooLong.at(0));
     }
     let mut counts = [0usize; MAX_LINES];
     let mut coefficients = [0u16; ALL_TERMS];
     let mut exponents = [0u8; ALL_EXPONENTS];
     let mut cells = [0u16; MAX_CELLS];
-    let c = check_text(
+    let passed = check_text(
         input,
         &mut counts,
         &mut coefficients,
         &mut exponents,
         &mut cells,
-    );
-    let shape = c.shape;
-    let irreducibles = c.irreducibles;
-    let verdict = c.verdict;
-    match verdict {
-        Verdict::Refused(r, line) => Answer::Refused(r, line),
-        Verdict::Passed => convert_basis(
-            &mut *output,
-            &mut counts,
-            &mut coefficients,
-            &mut exponents,
-            &cells,
-            shape,
-            irreducibles,
-        ),
-    }
+    )?;
+    convert_basis(
+        &mut *output,
+        &mut counts,
+        &mut coefficients,
+        &mut exponents,
+        &cells,
+        passed.shape,
+        passed.irreducibles,
+    )
 }

@@ -4,7 +4,7 @@ use Rattle.convert.proofs.LastCheck.{finished-short, finished-enough}
 use Rattle.convert.proofs.finish.Goals as goal
 
 pub returns-then-output-output_width : goal.returns-then-output-output_width
-returns-then-output-output_width c h = finished-short _ _ (omega (arith, c.output_width.ensures h))
+returns-then-output-output_width c h = rw c.at.ensures (finished-short _ _ (omega (arith, c.output_width.ensures h)))
 
 pub put_output-requires : goal.put_output-requires
 put_output-requires c =
