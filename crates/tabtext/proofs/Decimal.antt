@@ -1,5 +1,6 @@
 -- Numbers in decimal digits.
 --   number-digit     a number below 10 is its digit
+--   number_last      the same, and its last digit
 --   number_more      any other is its tenth, and its last digit
 --   width-1, width-2, width-3, width-4, width-5
 --                    how many digits a number has
@@ -29,6 +30,9 @@ digits-bound (suc f) (suc g) v h k = elim (dec_lt v 10) [
 pub number-digit : (v : ℕ) → v < 10 → decimal v ≡ (48 + v) ∷ []
 unfolding decimal
 number-digit v h = rw (decimal, digits, lt-ltb v 10 h)
+
+pub number_last : (v : ℕ) → v ≤ 9 → decimal v ≡ (48 + v % 10) ∷ []
+number_last v h = number-digit v (omega arith) ∙ ap (λ k. (48 + k) ∷ []) (omega arith)
 
 pub number_more : (v : ℕ) → 10 ≤ v → decimal v ≡ decimal (v / 10) ++ ((48 + v % 10) ∷ [])
 unfolding decimal

@@ -1,68 +1,53 @@
--- Loops over fields, each with a separator before it: the fields from place j on are left.
---   PrintingFields show sep l was at k out i j      a loop that prints the fields of l from place k on, at place j
---   printing-start, printing-room                   before the first turn; room for a field
---   printing-turn, printing-end                     a turn; after the last turn
---   line-start, line-last                           a line of a word and fields: before its first field; after its last one LF is left
---   CountingFields show sep l whole base each w j   a loop that adds up their widths, at place j
---   counting-fields-turn, counting-fields-end       a turn; after the last turn
-use Prim.Native.Nat.{ℕ, ◌+◌, ◌*◌, ◌≤◌, ◌<◌}
-use mathlib.Core.Path.{◌≡◌, refl, ap}
-use mathlib.Core.List.{List, [], ◌∷◌, ◌++◌, map}
-use native.Mathlib.Nat.{mul-suc}
-use native.Mathlib.Numerals.{add-one}
+-- Loops over fields that are put into a sink, each with a separator before it: the fields from place j on are left.
+--   PrintingFields takes after show sep l more most was whole now j
+--                                 a loop that prints the fields of l, each of fewer than `most` bytes, at place j; `more` comes after them
+--   printing-room                 there is room for a field and its separator
+--   printing-turn                 a turn
+--   printing-last                 after the last turn, what comes after the fields is left
+--   printing-short                and each field is so short
+use Prim.Native.Nat.{ℕ, zero, suc, ◌+◌, ◌<◌}
+use mathlib.Core.Path.{◌≡◌, ap, sym, ◌∙◌, subst}
+use mathlib.Core.List.{List, [], ◌∷◌}
 use native.Mathlib.Omega.{arith}
-use lib.ListN.{length, drop}
-use Rattle.lists.specs.Lists.{Bytes}
-use Rattle.tabtext.specs.Written.{Room, Written}
-use Rattle.tabtext.proofs.Parted.{each_after}
-use Rattle.tabtext.proofs.Separators.{StandsAt, after_more, after-width, after_none}
-use Rattle.tabtext.proofs.Writing.{Left, left-all, left_less, left-none, left-room}
+use native.Mathlib.Numerals.{add-one}
+use lib.ListN.{length, take, drop}
+use lib.Seq.{take-length}
+use Rattle.lists.specs.Lists.{Bytes, Each}
+use Rattle.tabtext.specs.Sinks.{SinkLaws}
+use Rattle.tabtext.proofs.Separators.{StandsAt, fields_from, fields_more, fields_none}
+use Rattle.tabtext.proofs.Writing.{Left, left-room, left_less}
 
-module _ {A : Type 0} (show : A → Bytes) (sep : ℕ) (l : List A) where
-  -- `out` is the slice `was` with the fields from k up to j written from the place `at`, and i is the place after them.
-  pub record PrintingFields (was : Bytes) (at k : ℕ) (out : Bytes) (i j : ℕ) : Type 0 where
-    pub left : Left was at (each_after sep (map show (drop k l))) (each_after sep (map show (drop j l))) out i
+module _ {A : Type 0} (P : A → Type 0) where
+  each-next : (j : ℕ) (l : List A) (x : A) → drop j l ≡ x ∷ drop (suc j) l → P x → Each P (take j l) → Each P (take (suc j) l)
+  each-next zero [] x s p e = tt
+  each-next zero (y ∷ l) x s p e = let q : x ≡ y = cc in (subst P q p, tt)
+  each-next (suc j) [] x s p e = tt
+  each-next (suc j) (y ∷ l) x s p e = (e.0, each-next j l x s p e.1)
 
-  -- w bytes are counted of `whole`, the widths of the fields up to j among them: `base` and at most `each` for a field.
-  pub record CountingFields (whole base each w j : ℕ) : Type 0 where
-    pub rest : w + length (each_after sep (map show (drop j l))) ≡ whole
-    pub most : w ≤ base + each * j
+  -- One element more.
+  pub each_more : (l : List A) (j : ℕ) (x : A) → StandsAt l j x → P x → Each P (take j l) → Each P (take (j + 1) l)
+  each_more l j x s p e = rw (add-one j) (each-next j l x (rw (add-one j) at s) p e)
 
-module _ {A : Type 0} {show : A → Bytes} {sep : ℕ} {l : List A} where
-  module _ {was : Bytes} {at k : ℕ} where
-    pub printing-start : at + length (each_after sep (map show (drop k l))) ≤ length was → PrintingFields show sep l was at k was at k
-    printing-start r = record { left = left-all refl r }
+module _ {S A : Type 0} (takes : S → ℕ → Type 0) (after : S → Bytes → S) (show : A → Bytes) (sep : ℕ) (l : List A) (more : Bytes) (most : ℕ) where
+  pub record PrintingFields (was : S) (whole : Bytes) (now : S) (j : ℕ) : Type 0 where
+    pub left : Left takes after was whole (fields_from show sep l more j) now
+    pub short : Each (λ x. length (show x) < most) (take j l)
 
-    module _ {out : Bytes} {i j : ℕ} (p : PrintingFields show sep l was at k out i j) where
-      pub printing-room : (x : A) → StandsAt l j x → i + length (sep ∷ show x) ≤ length out
-      printing-room x s = left-room (sep ∷ show x) (each_after sep (map show (drop (j + 1) l))) (after_more show sep l j x s) p.left
+module _ {S A : Type 0} {takes : S → ℕ → Type 0} {after : S → Bytes → S} (laws : SinkLaws takes after)
+    {show : A → Bytes} {sep : ℕ} {l : List A} {more : Bytes} {most : ℕ} {was : S} {whole : Bytes} {now : S} {j : ℕ}
+    (f : PrintingFields takes after show sep l more most was whole now j) where
+  pub printing-room : (x : A) → StandsAt l j x → takes now (length (sep ∷ show x))
+  printing-room x s = left-room laws (sep ∷ show x) _ (fields_more show sep l more j x s) f.left
 
-      pub printing-turn : (x : A) {out' : Bytes} {i' : ℕ} → StandsAt l j x → Written out i (sep ∷ show x) out' i' →
-          PrintingFields show sep l was at k out' i' (j + 1)
-      printing-turn x s w = record { left = left_less _ _ (after_more show sep l j x s) p.left w }
+  pub printing-turn : (x : A) {next : S} → StandsAt l j x → length (show x) < most → next ≡ after now (sep ∷ show x) → PrintingFields takes after show sep l more most was whole next (j + 1)
+  printing-turn x s b w = record {
+    left = left_less laws (sep ∷ show x) _ (fields_more show sep l more j x s) f.left w;
+    short = each_more (λ x. length (show x) < most) l j x s b f.short;
+  }
 
-      pub printing-end : length l ≤ j → Written was at (each_after sep (map show (drop k l))) out i
-      printing-end h = left-none (after_none show sep l j h) p.left
+  module _ (h : length l ≡ j) where
+    pub printing-last : Left takes after was whole more now
+    printing-last = subst (λ (r : Bytes). Left takes after was whole r now) (fields_none show sep l more j (omega arith)) f.left
 
-  module _ {whole base each w j : ℕ} (p : CountingFields show sep l whole base each w j) where
-    pub counting-fields-turn : (x : A) {v : ℕ} → StandsAt l j x → v ≡ length (show x) → v < each →
-        CountingFields show sep l whole base each (w + (1 + v)) (j + 1)
-    counting-fields-turn x s q b = record {
-      rest = omega (arith, p.rest, after-width show sep l j x s);
-      most = rw (add-one j, mul-suc each j) (omega (arith, p.most));
-    }
-
-    pub counting-fields-end : length l ≤ j → w ≡ whole
-    counting-fields-end h = omega (arith, p.rest, ap length (after_none show sep l j h))
-
--- A line is a word, fields, each with a tab before it, and LF; the word is written.
-module _ {A : Type 0} (show : A → Bytes) (l : List A) (word : Bytes) {whole was out₀ : Bytes} {at i₀ : ℕ}
-    (parts : whole ≡ word ++ (each_after 9 (map show l) ++ (10 ∷ []))) (room : Room at whole was) (written : Written was at word out₀ i₀) where
-  after-word : Left was at whole (each_after 9 (map show l) ++ (10 ∷ [])) out₀ i₀
-  after-word = left_less word _ parts (left-all refl room) written
-
-  pub line-start : PrintingFields show 9 l out₀ i₀ 0 out₀ i₀ 0
-  line-start = printing-start (left-room (each_after 9 (map show l)) (10 ∷ []) refl after-word)
-
-  pub line-last : {out : Bytes} {i j : ℕ} → PrintingFields show 9 l out₀ i₀ 0 out i j → length l ≤ j → Left was at whole (10 ∷ []) out i
-  line-last p h = left_less _ _ refl after-word (printing-end p h)
+    pub printing-short : Each (λ x. length (show x) < most) l
+    printing-short = subst (Each (λ x. length (show x) < most)) (ap (λ k. take k l) (sym h) ∙ take-length l) f.short

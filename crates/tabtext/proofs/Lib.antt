@@ -19,9 +19,9 @@
 --   Records         what the answer of `read_record` says of the text
 --   Cases           lines of document 01 and of its edges
 --   Decimal         numbers as their digits
---   Writing         bytes written from a place, part by part
+--   Writing         bytes put into a sink, part by part
 --   Separators      fields with a separator between, as fields with a separator before each later one
---   FieldPrinting   loops that print or count fields
+--   FieldPrinting   loops that print fields
 --   Values          what stands at each place of the rows and terms of values
 --   Widths          the number of bytes, and bounds on it
 pub mod Steps

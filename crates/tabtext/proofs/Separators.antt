@@ -1,9 +1,9 @@
 -- What is printed, as its first part and then each later field with the separator before it.
 --   StandsAt l j x      x stands at place j of the list
 --   stands_at           what a list has at a place stands there
---   after_more          the field at a place, and those after it
---   after-width         their number of bytes
---   after_none          past the last field nothing is left
+--   fields_from         the fields from a place on, each with the separator before it, and what comes after them
+--   fields_more         the field at a place, and the later ones
+--   fields_none         past the last field, what comes after them
 --   exponents-none      a row without exponents
 --   exponents-after     a row of exponents
 --   term-parts          a term: its coefficient, a colon and its exponents
@@ -13,11 +13,11 @@
 --   counted-parts       a word, a tab, a number and LF
 --   points-counted      a runs line
 --   end-counted         an end line
-use Prim.Native.Nat.{ℕ, suc, ◌+◌, ◌≤◌, ◌<◌}
+use Prim.Native.Nat.{ℕ, ◌+◌, ◌≤◌, ◌<◌}
 use mathlib.Core.Path.{◌≡◌, refl, ap, ◌∙◌}
-use mathlib.Core.List.{List, [], ◌∷◌, ◌++◌, map}
+use mathlib.Core.List.{List, [], ◌∷◌, ◌++◌, map, append_assoc, append-nil}
 use native.Mathlib.Numerals.{add-one}
-use lib.ListN.{length, get_or, drop, length-append, drop_of_length-le}
+use lib.ListN.{length, get_or, drop, drop_of_length-le}
 use lib.Seq.{drop-cons}
 use Rattle.lists.specs.Lists.{Bytes}
 use Rattle.lines.specs.Terms.{Term}
@@ -33,36 +33,36 @@ StandsAt l j x = drop j l ≡ x ∷ drop (j + 1) l
 pub stands_at : {A : Type 0} (l : List A) (j : ℕ) (x d : A) → x ≡ get_or l j d → j < length l → StandsAt l j x
 stands_at l j x d e h = rw (drop-cons l j d, add-one, e)
 
-module _ {A : Type 0} (show : A → Bytes) (sep : ℕ) (l : List A) (j : ℕ) where
-  pub after_more : (x : A) → StandsAt l j x → each_after sep (map show (drop j l)) ≡ (sep ∷ show x) ++ each_after sep (map show (drop (j + 1) l))
-  unfolding each_after
-  after_more x s = rw s
+-- The fields from place j on, each with the separator before it, and what comes after them.
+abbrev pub fields_from : {A : Type 0} → (A → Bytes) → ℕ → List A → Bytes → ℕ → Bytes
+fields_from show sep l more j = each_after sep (map show (drop j l)) ++ more
 
-  pub after-width : (x : A) → StandsAt l j x →
-      length (each_after sep (map show (drop j l))) ≡ suc (length (show x)) + length (each_after sep (map show (drop (j + 1) l)))
-  after-width x s = ap length (after_more x s) ∙ length-append (sep ∷ show x) (each_after sep (map show (drop (j + 1) l)))
-
-  pub after_none : length l ≤ j → each_after sep (map show (drop j l)) ≡ []
+module _ {A : Type 0} (show : A → Bytes) (sep : ℕ) (l : List A) (more : Bytes) (j : ℕ) where
+  pub fields_more : (x : A) → StandsAt l j x → fields_from show sep l more j ≡ sep ∷ (show x ++ fields_from show sep l more (j + 1))
   unfolding each_after
-  after_none h = rw (drop_of_length-le l h)
+  fields_more x s = rw (s, append_assoc)
+
+  pub fields_none : length l ≤ j → fields_from show sep l more j ≡ more
+  unfolding each_after
+  fields_none h = rw (drop_of_length-le l h)
 
 pub exponents-none : dotted [] ≡ []
 unfolding dotted
 exponents-none = refl
 
-pub exponents-after : (e : List ℕ) (x : ℕ) → StandsAt e 0 x → dotted e ≡ decimal x ++ each_after 46 (map decimal (drop 1 e))
+pub exponents-after : (e : List ℕ) (x : ℕ) → StandsAt e 0 x → dotted e ≡ decimal x ++ fields_from decimal 46 e [] 1
 unfolding dotted
-exponents-after e x s = ap dotted s ∙ part-after 46 (decimal x) (map decimal (drop 1 e))
+exponents-after e x s = ap dotted s ∙ part-after 46 (decimal x) (map decimal (drop 1 e)) ∙ rw append-nil
 
 pub term-parts : (c : ℕ) (e : List ℕ) → term (c, e) ≡ decimal c ++ (58 ∷ dotted e)
 unfolding term
 term-parts c e = refl
 
-pub generator-after : (ts : List Term) → printed (generator ts) ≡ bytes "poly" ++ (each_after 9 (map term ts) ++ (10 ∷ []))
+pub generator-after : (ts : List Term) → printed (generator ts) ≡ bytes "poly" ++ fields_from term 9 ts (10 ∷ []) 0
 unfolding printed
 generator-after ts = generator-text [] ts
 
-pub standard-after : (ms : List (List ℕ)) → printed (standard ms) ≡ bytes "stairs" ++ (each_after 9 (map dotted ms) ++ (10 ∷ []))
+pub standard-after : (ms : List (List ℕ)) → printed (standard ms) ≡ bytes "stairs" ++ fields_from dotted 9 ms (10 ∷ []) 0
 unfolding printed
 standard-after ms = standard-text [] ms
 

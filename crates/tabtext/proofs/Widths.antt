@@ -6,6 +6,8 @@
 --   standard-width                                  a stairs line
 --   header-width                                    a basis line
 --   counted-width                                   a runs line or an end line
+--   row-width-5                                     a row of at most 4 exponents, each of fewer than 6 bytes, has at most 24
+--   generator-most, standard-most                   a poly line, a stairs line of fields of fewer than k bytes each
 --   SmallExponents e, SmallRow e                    exponents of at most 32; at most 4 of them
 --   SmallTerm t                                     such a row and a coefficient of at most 251
 --   row-width-most                                  a row of at most 4 exponents, none over 32, has at most 11
@@ -14,7 +16,7 @@
 --   standard-width-most                             a stairs line of at most 32 such rows has at most 7 + 12 · 32
 use Prim.Native.Nat.{ℕ, ◌+◌, ◌*◌, ◌≤◌, ◌<◌}
 use mathlib.Core.Path.{◌≡◌, refl, ap, ◌∙◌}
-use mathlib.Core.List.{List, [], ◌∷◌, ◌++◌, map}
+use mathlib.Core.List.{List, [], ◌∷◌, ◌++◌, map, append-nil}
 use native.Mathlib.Nat.{mul-suc}
 use native.Mathlib.Omega.{arith}
 use native.Mathlib.Decide.{dec_lt}
@@ -47,7 +49,9 @@ line-width : (w l : Bytes) → length (w ++ (l ++ (10 ∷ []))) ≡ length w + 1
 line-width w l = omega (arith, length-append w (l ++ (10 ∷ [])), length-append l (10 ∷ []))
 
 pub row-width : (e : List ℕ) (x : ℕ) → StandsAt e 0 x → length (dotted e) ≡ length (decimal x) + length (each_after 46 (map decimal (drop 1 e)))
-row-width e x s = ap length (exponents-after e x s) ∙ length-append (decimal x) (each_after 46 (map decimal (drop 1 e)))
+row-width e x s =
+    let y : Bytes = each_after 46 (map decimal (drop 1 e)) in
+    ap length (exponents-after e x s) ∙ length-append (decimal x) (y ++ []) ∙ ap (λ (b : Bytes). length (decimal x) + length b) (append-nil y)
 
 pub term-width : (c : ℕ) (e : List ℕ) → length (term (c, e)) ≡ length (decimal c) + 1 + length (dotted e)
 term-width c e = omega (arith, ap length (term-parts c e) ∙ length-append (decimal c) (58 ∷ dotted e))
@@ -82,6 +86,20 @@ each-implied : {A : Type 0} {P Q : A → Type 0} → ((x : A) → P x → Q x) �
 each-implied f [] h = tt
 each-implied f (x ∷ l) h = (f x h.0, each-implied f l h.1)
 
+-- A row of exponents, each of fewer than k bytes.
+row-most : (k : ℕ) (e : List ℕ) → Each (λ v. length (decimal v) < k) e → length (dotted e) ≤ k * length e
+row-most k [] h = omega (arith, ap length exponents-none)
+row-most k (v ∷ e) h = rw (mul-suc k (length e)) (omega (arith, row-width (v ∷ e) v refl, h.0, after-width-most decimal 46 k e h.1))
+
+pub row-width-5 : (n : ℕ) (e : List ℕ) → length e ≡ n → n ≤ most_variables → Each (λ v. length (decimal v) < 6) e → length (dotted e) ≤ 24
+row-width-5 n e a b h = omega (arith, row-most 6 e h)
+
+pub generator-most : (k : ℕ) (ts : List Term) → Each (λ t. length (term t) < k) ts → length (printed (generator ts)) ≤ 5 + k * length ts
+generator-most k ts h = omega (arith, generator-width ts, after-width-most term 9 k ts h)
+
+pub standard-most : (k : ℕ) (ms : List (List ℕ)) → Each (λ e. length (dotted e) < k) ms → length (printed (standard ms)) ≤ 7 + k * length ms
+standard-most k ms h = omega (arith, standard-width ms, after-width-most dotted 9 k ms h)
+
 -- No exponent over 32.
 abbrev pub SmallExponents : List ℕ → Type 0
 SmallExponents e = Each (λ v. v ≤ most_exponent) e
@@ -109,9 +127,9 @@ term-width-most t h =
 
 pub generator-width-most : (ts : List Term) → length ts ≤ most_terms → Each SmallTerm ts → length (printed (generator ts)) ≤ 5 + 16 * most_terms
 generator-width-most ts h s =
-    omega (arith, generator-width ts, after-width-most term 9 16 ts (each-implied term-width-most ts s))
+    omega (arith, generator-most 16 ts (each-implied term-width-most ts s))
 
 pub standard-width-most : (ms : List (List ℕ)) → length ms ≤ most_standard → Each SmallRow ms →
     length (printed (standard ms)) ≤ 7 + 12 * most_standard
 standard-width-most ms h s =
-    omega (arith, standard-width ms, after-width-most dotted 9 12 ms (each-implied row-width-most ms s))
+    omega (arith, standard-most 12 ms (each-implied row-width-most ms s))

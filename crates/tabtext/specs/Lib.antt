@@ -6,10 +6,10 @@
 --   Readers   a number, a row of exponents, a term, a line, read off the front of a list of bytes
 --   Answers   what the readers' answers say of a text
 --   Printed   the lines that values of the code are printed as
---   Written   bytes written into a slice
+--   Sinks     what a sink has after bytes are put into it
 pub mod Sizes
 pub mod Text
 pub mod Readers
 pub mod Answers
 pub mod Printed
-pub mod Written
+pub mod Sinks

@@ -3,7 +3,8 @@ ghost use Rattle.std.specs.Prelude.{◌≡◌, ◌≤◌, length};
 ghost use Rattle.tabtext.specs.Text.{Number as Small, decimal};
 ghost use Rattle.tabtext.specs.Readers.{read_number};
 ghost use Rattle.tabtext.specs.Answers.{DigitSays, NumberSays};
-ghost use Rattle.tabtext.specs.Written.{Room, Written};
+
+use crate::sink::Sink;
 
 // The value of the digit at a place, where one stands.
 fn digit_at(text: &[u8], i: usize) -> Option<u32>
@@ -37,34 +38,14 @@ pub fn read_number(text: &[u8], at: usize) -> Option<(u32, usize)>
     Some((v, end))
 }
 
-// How many bytes a number is printed in.
-pub fn number_width(v: u32) -> usize
-    requires { Small v }
-    ensures { (result ≡ length (decimal v)) × (result ≤ 5) }
+// Prints v.
+pub fn print_number<S: Sink>(sink: &mut S, v: u32)
+    requires { S.takes sink.old (length (decimal v)) }
+    ensures printed { sink.new ≡ S.after sink.old (decimal v) }
+    ensures short { Small v → length (decimal v) ≤ 5 }
 {
-    if v < 10 {
-        1
-    } else if v < 100 {
-        2
-    } else if v < 1000 {
-        3
-    } else if v < 10000 {
-        4
-    } else {
-        5
+    if 9 < v {
+        print_number(&mut *sink, v / 10);
     }
-}
-
-// Prints v from a place, and returns the place after.
-pub fn put_number(out: &mut [u8], at: usize, v: u32) -> usize
-    requires { Room at (decimal v) out.old }
-    ensures { Written out.old at (decimal v) out.new result }
-{
-    if v < 10 {
-        out[at] = 48 + v as u8;
-        return at + 1;
-    }
-    let i = put_number(&mut *out, at, v / 10);
-    out[i] = 48 + (v % 10) as u8;
-    i + 1
+    sink.put(b'0' + (v % 10) as u8);
 }

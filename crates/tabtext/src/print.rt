@@ -1,53 +1,37 @@
-// Values of the code, printed as lines at a place of a lent slice.
+// Values of the code, printed as lines to a sink.
 //
-// For each kind there are two functions: its width, the number of its bytes, and its printer, which writes the bytes from
-// a place on and returns the place after them. A number has at most 5 digits: this bounds the width of a poly line and of
-// a stairs line.
+// The contract of each says what the sink has afterwards, and how many bytes that are at most. A number has at most 5
+// digits: this bounds the width of a poly line and of a stairs line.
 //
-//   put_bytes                            bytes as they are
-//   put_after                            a separator and a number
-//   value, exponent_at                   an exponent as a number; that of a variable
-//   exponents_width, put_exponents       the exponents of a monomial
-//   term_width, put_term                 a coefficient and a monomial
-//   generator_width, put_generator       a poly line
-//   standard_width, put_standard         a stairs line
-//   header_width, put_header             a basis line
-//   count_width, put_count               a runs line or an end line
+//   print_after                a separator and a number
+//   value, exponent_at         an exponent as a number; that of a variable
+//   print_exponents            the exponents of a monomial
+//   print_term                 a coefficient and a monomial
+//   print_generator            a poly line
+//   print_standard             a stairs line
+//   print_header               a basis line
+//   print_count                a runs line or an end line
 ghost use Rattle.std.specs.Prelude.{◌≡◌, ◌∷◌, ℕ, ◌+◌, ◌*◌, ◌≤◌, ◌<◌, length, get_or};
 ghost use Rattle.monomial.specs.Sizes.{most_variables, VariableCount};
 ghost use Rattle.lines.specs.Sizes.{most_standard, most_terms};
 ghost use Rattle.lines.specs.LineTerms.{exponents_of};
 ghost use Rattle.tabtext.specs.Text.{Number, header, decimal, dotted, term};
 ghost use Rattle.tabtext.specs.Printed.{generator_line, standard_line, printed, count_line};
-ghost use Rattle.tabtext.specs.Written.{Room, Written};
 
-use crate::number::{number_width, put_number};
+use crate::number::print_number;
+use crate::sink::Sink;
 use lines::line::Generator;
 use lines::sizes::MAX_STANDARD;
 use monomial::{Exponent, Monomial};
 use residue::Residue;
 
-pub fn put_bytes(out: &mut [u8], at: usize, bytes: &[u8]) -> usize
-    requires { Room at bytes.now out.old }
-    ensures { Written out.old at bytes.now out.new result }
-{
-    let mut i = at;
-    let mut j: usize = 0;
-    while j < bytes.len() {
-        out[i] = bytes[j];
-        i += 1;
-        j += 1;
-    }
-    i
-}
-
 // A separator, and the number v.
-fn put_after(out: &mut [u8], at: usize, separator: u8, v: u32) -> usize
-    requires { Room at (separator ∷ decimal v) out.old }
-    ensures { Written out.old at (separator ∷ decimal v) out.new result }
+fn print_after<S: Sink>(sink: &mut S, separator: u8, v: u32)
+    requires { S.takes sink.old (length (separator ∷ decimal v)) }
+    ensures { sink.new ≡ S.after sink.old (separator ∷ decimal v) }
 {
-    out[at] = separator;
-    put_number(&mut *out, at + 1, v)
+    sink.put(separator);
+    print_number(&mut *sink, v);
 }
 
 // An exponent, as a number.
@@ -65,142 +49,76 @@ fn exponent_at(m: Monomial, i: usize) -> u32
     value(m.e[i])
 }
 
-pub fn exponents_width(m: Monomial, n: usize) -> usize
-    requires { VariableCount n }
-    ensures { (result ≡ length (dotted (exponents_of n m))) × (result ≤ 24) }
+pub fn print_exponents<S: Sink>(sink: &mut S, m: Monomial, n: usize)
+    requires { VariableCount n × S.takes sink.old (length (dotted (exponents_of n m))) }
+    ensures printed { sink.new ≡ S.after sink.old (dotted (exponents_of n m)) }
+    ensures short { length (dotted (exponents_of n m)) ≤ 24 }
 {
-    let mut w = number_width(exponent_at(m, 0));
-    let mut k: usize = 1;
-    while k < n {
-        w += 1 + number_width(exponent_at(m, k));
-        k += 1;
+    print_number(&mut *sink, exponent_at(m, 0));
+    for j in 1..n {
+        print_after(&mut *sink, b'.', exponent_at(m, j));
     }
-    w
 }
 
-pub fn put_exponents(out: &mut [u8], at: usize, m: Monomial, n: usize) -> usize
-    requires { VariableCount n × Room at (dotted (exponents_of n m)) out.old }
-    ensures { Written out.old at (dotted (exponents_of n m)) out.new result }
+pub fn print_term<S: Sink>(sink: &mut S, c: Residue, m: Monomial, n: usize)
+    requires { VariableCount n × S.takes sink.old (length (term (c.0, exponents_of n m))) }
+    ensures printed { sink.new ≡ S.after sink.old (term (c.0, exponents_of n m)) }
+    ensures short { length (term (c.0, exponents_of n m)) ≤ 30 }
 {
-    let mut i = put_number(&mut *out, at, exponent_at(m, 0));
-    let mut j: usize = 1;
-    while j < n {
-        i = put_after(&mut *out, i, b'.', exponent_at(m, j));
-        j += 1;
+    print_number(&mut *sink, c.0 as u32);
+    sink.put(b':');
+    print_exponents(&mut *sink, m, n);
+}
+
+pub fn print_generator<S: Sink>(sink: &mut S, g: Generator, n: usize)
+    requires { (g.terms ≤ most_terms) × VariableCount n × S.takes sink.old (length (printed (generator_line n g))) }
+    ensures printed { sink.new ≡ S.after sink.old (printed (generator_line n g)) }
+    ensures short { length (printed (generator_line n g)) ≤ 5 + 31 * most_terms }
+{
+    sink.put_bytes(b"poly");
+    for j in 0..g.terms {
+        sink.put(b'\t');
+        print_term(&mut *sink, g.coefficients[j], g.monomials[j], n);
     }
-    i
+    sink.put(b'\n');
 }
 
-pub fn term_width(c: Residue, m: Monomial, n: usize) -> usize
-    requires { VariableCount n }
-    ensures { (result ≡ length (term (c.0, exponents_of n m))) × (result ≤ 30) }
-{
-    number_width(c.0 as u32) + 1 + exponents_width(m, n)
-}
-
-pub fn put_term(out: &mut [u8], at: usize, c: Residue, m: Monomial, n: usize) -> usize
-    requires { VariableCount n × Room at (term (c.0, exponents_of n m)) out.old }
-    ensures { Written out.old at (term (c.0, exponents_of n m)) out.new result }
-{
-    let i = put_number(&mut *out, at, c.0 as u32);
-    out[i] = b':';
-    put_exponents(&mut *out, i + 1, m, n)
-}
-
-pub fn generator_width(g: Generator, n: usize) -> usize
-    requires { (g.terms ≤ most_terms) × VariableCount n }
-    ensures { (result ≡ length (printed (generator_line n g))) × (result ≤ 5 + 31 * most_terms) }
-{
-    let mut w: usize = 5;
-    let mut k: usize = 0;
-    while k < g.terms {
-        w += 1 + term_width(g.coefficients[k], g.monomials[k], n);
-        k += 1;
-    }
-    w
-}
-
-pub fn put_generator(out: &mut [u8], at: usize, g: Generator, n: usize) -> usize
-    requires { (g.terms ≤ most_terms) × VariableCount n × Room at (printed (generator_line n g)) out.old }
-    ensures { Written out.old at (printed (generator_line n g)) out.new result }
-{
-    let mut i = put_bytes(&mut *out, at, b"poly");
-    let mut j: usize = 0;
-    while j < g.terms {
-        out[i] = b'\t';
-        i = put_term(&mut *out, i + 1, g.coefficients[j], g.monomials[j], n);
-        j += 1;
-    }
-    out[i] = b'\n';
-    i + 1
-}
-
-pub fn standard_width(monomials: [Monomial; MAX_STANDARD], count: usize, n: usize) -> usize
-    requires { (count ≤ most_standard) × VariableCount n }
-    ensures { (result ≡ length (printed (standard_line n count monomials))) × (result ≤ 7 + 25 * most_standard) }
-{
-    let mut w: usize = 7;
-    let mut k: usize = 0;
-    while k < count {
-        w += 1 + exponents_width(monomials[k], n);
-        k += 1;
-    }
-    w
-}
-
-pub fn put_standard(
-    out: &mut [u8],
-    at: usize,
+pub fn print_standard<S: Sink>(
+    sink: &mut S,
     monomials: [Monomial; MAX_STANDARD],
     count: usize,
     n: usize,
-) -> usize
-    requires { (count ≤ most_standard) × VariableCount n × Room at (printed (standard_line n count monomials)) out.old }
-    ensures { Written out.old at (printed (standard_line n count monomials)) out.new result }
+)
+    requires { (count ≤ most_standard) × VariableCount n × S.takes sink.old (length (printed (standard_line n count monomials))) }
+    ensures printed { sink.new ≡ S.after sink.old (printed (standard_line n count monomials)) }
+    ensures short { length (printed (standard_line n count monomials)) ≤ 7 + 25 * most_standard }
 {
-    let mut i = put_bytes(&mut *out, at, b"stairs");
-    let mut j: usize = 0;
-    while j < count {
-        out[i] = b'\t';
-        i = put_exponents(&mut *out, i + 1, monomials[j], n);
-        j += 1;
+    sink.put_bytes(b"stairs");
+    for j in 0..count {
+        sink.put(b'\t');
+        print_exponents(&mut *sink, monomials[j], n);
     }
-    out[i] = b'\n';
-    i + 1
+    sink.put(b'\n');
 }
 
-pub fn header_width(word: &[u8], p: u16, n: usize) -> usize
-    requires { n ≤ most_variables }
-    ensures { result ≡ length (printed (header word.now p n)) }
+pub fn print_header<S: Sink>(sink: &mut S, word: &[u8], p: u16, n: usize)
+    requires { (n ≤ most_variables) × S.takes sink.old (length (printed (header word.now p n))) }
+    ensures printed { sink.new ≡ S.after sink.old (printed (header word.now p n)) }
+    ensures short { length (printed (header word.now p n)) ≤ length word.now + 19 }
 {
-    word.len() + number_width(p as u32) + number_width(n as u32) + 9
+    sink.put_bytes(b"basis\t");
+    sink.put_bytes(word);
+    print_after(&mut *sink, b'\t', p as u32);
+    print_after(&mut *sink, b'\t', n as u32);
+    sink.put(b'\n');
 }
 
-pub fn put_header(out: &mut [u8], at: usize, word: &[u8], p: u16, n: usize) -> usize
-    requires { (n ≤ most_variables) × Room at (printed (header word.now p n)) out.old }
-    ensures { Written out.old at (printed (header word.now p n)) out.new result }
+pub fn print_count<S: Sink>(sink: &mut S, word: &[u8], v: u32)
+    requires { S.takes sink.old (length (count_line word.now v)) }
+    ensures printed { sink.new ≡ S.after sink.old (count_line word.now v) }
+    ensures short { Number v → length (count_line word.now v) ≤ length word.now + 7 }
 {
-    let mut i = put_bytes(&mut *out, at, b"basis\t");
-    i = put_bytes(&mut *out, i, word);
-    i = put_after(&mut *out, i, b'\t', p as u32);
-    i = put_after(&mut *out, i, b'\t', n as u32);
-    out[i] = b'\n';
-    i + 1
-}
-
-pub fn count_width(word: &[u8], v: u32) -> usize
-    requires { Number v }
-    ensures { result ≡ length (count_line word.now v) }
-{
-    word.len() + number_width(v) + 2
-}
-
-pub fn put_count(out: &mut [u8], at: usize, word: &[u8], v: u32) -> usize
-    requires { Room at (count_line word.now v) out.old }
-    ensures { Written out.old at (count_line word.now v) out.new result }
-{
-    let mut i = put_bytes(&mut *out, at, word);
-    i = put_after(&mut *out, i, b'\t', v);
-    out[i] = b'\n';
-    i + 1
+    sink.put_bytes(word);
+    print_after(&mut *sink, b'\t', v);
+    sink.put(b'\n');
 }

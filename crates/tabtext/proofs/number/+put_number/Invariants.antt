@@ -1,5 +1,0 @@
--- `number::put_number`, which calls itself, meets its contract. The measure is the number.
-use Rattle.tabtext.proofs.number.+put_number.Given as goal
-
-abbrev pub decreases-put_number : goal.decreases-put_number
-decreases-put_number l = l.v
