@@ -1,24 +1,19 @@
 -- The output for a lex basis of the code, by its parts.
 --   output p n b         the parts, one after the other
 --   written-output       the output is these parts
---   written-width        its number of bytes
---   header-short         the basis line has at most 22
---   counted-short        a runs line and an end line have at most 11 each
-use Prim.Native.Nat.{ℕ, ◌+◌, ◌≤◌, ◌<◌}
+use Prim.Native.Nat.{ℕ, ◌≤◌, ◌<◌}
 use mathlib.Core.Path.{◌≡◌, ap, ap₂, ◌∙◌}
 use mathlib.Core.List.{List, [], ◌∷◌, ◌++◌, map, append-nil}
-use native.Mathlib.Omega.{arith}
-use lib.ListN.{length, take, length-map, length-append}
+use lib.ListN.{length, take, length-map}
 use lib.Seq.{length-take-le}
 use Rattle.lists.specs.Lists.{Bytes}
 use Rattle.monomial.specs.Represented.{row}
 use Rattle.lines.specs.LineTerms.{terms_in}
 use Rattle.lines.specs.declared.line.Generator.{Generator}
-use Rattle.tabtext.specs.Text.{bytes, Number, header, standard, points, end, text, TextLine}
+use Rattle.tabtext.specs.Text.{bytes, header, standard, points, end, text, TextLine}
 use Rattle.tabtext.specs.Printed.{printed, count_line}
 use Rattle.tabtext.specs.Printed as lines
 use Rattle.tabtext.proofs.Separators.{points-counted, end-counted}
-use Rattle.tabtext.proofs.Widths.{number-width-5, header-width, counted-width}
 use Rattle.staircase.specs.TermLines as read
 use Rattle.fglm.specs.Found.{found_lines, found_standard, Printable}
 use Rattle.fglm.specs.Lex.{LexBasis}
@@ -64,22 +59,3 @@ written-output p h n b w i j = same ∙ text-parts (header (bytes "lex") p n) (g
         ≡ text ((header (bytes "lex") p n ∷ generator_lines n b) ++ (lines.standard_line n b.count b.standard ∷ points b.count ∷ end b.lines ∷ []))
     same = ap₂ (λ (ls : List TextLine) (s : List (List ℕ) × ℕ × ℕ). text ((header (bytes "lex") p n ∷ ls) ++ (standard s.0 ∷ points s.1 ∷ end s.2 ∷ [])))
         (lines-printed p h n G w.each) (λ i. (standard-printed n (take b.count b.standard) w.standard i, count i, number i))
-
-pub written-width : (p : ℕ) (h : 1 < p) (n : ℕ) (b : LexBasis) → Printable p n b → b.lines ≤ length b.generators → b.count ≤ length b.standard
-    → length (written_of p h n b)
-    ≡ length (printed (header (bytes "lex") p n)) + length (text (generator_lines n b)) + length (printed (lines.standard_line n b.count b.standard))
-    + (length (count_line (bytes "runs") b.count) + length (count_line (bytes "end") b.lines))
-written-width p h n b w i j =
-    let a : Bytes = printed (header (bytes "lex") p n) in
-    let x : Bytes = text (generator_lines n b) in
-    let s : Bytes = printed (lines.standard_line n b.count b.standard) in
-    let r : Bytes = count_line (bytes "runs") b.count in
-    let e : Bytes = count_line (bytes "end") b.lines in
-    omega (arith, ap length (written-output p h n b w i j), length-append a (x ++ (s ++ (r ++ e))), length-append x (s ++ (r ++ e)), length-append s (r ++ e), length-append r e)
-
-pub header-short : (p n : ℕ) → Number p → Number n → length (printed (header (bytes "lex") p n)) ≤ 22
-unfolding bytes
-header-short p n a b = omega (arith, header-width (bytes "lex") p n, number-width-5 p a, number-width-5 n b)
-
-pub counted-short : (w : Bytes) (v : ℕ) → length w ≤ 4 → Number v → length (count_line w v) ≤ 11
-counted-short w v a b = omega (arith, counted-width w v, number-width-5 v b)

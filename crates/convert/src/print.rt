@@ -1,96 +1,50 @@
-// The output for a lex basis: its width, and its printer.
+// The output for a lex basis, printed to a sink.
 //
-//   lines_width, put_lines       the poly lines
-//   output_width, put_output     the whole text: the basis line, the poly lines, the stairs line, the runs line, the end line
-ghost use Rattle.std.specs.Prelude.{◌≡◌, ◌+◌, ◌*◌, ◌≤◌, ◌<◌, length};
-ghost use Rattle.lines.specs.Sizes.{most_terms, most_lines};
+//   print_lines      the poly lines
+//   print_output     the whole text: the basis line, the poly lines, the stairs line, the runs line, the end line
+ghost use Rattle.std.specs.Prelude.{◌≡◌, ◌<◌, length};
 ghost use Rattle.tabtext.specs.Text.{text};
-ghost use Rattle.tabtext.specs.Written.{Room, Written};
 ghost use Rattle.fglm.specs.Lex.{lex_in, StoredLex};
 ghost use Rattle.convert.specs.LexText.{LinesFit, generator_lines, ToPrint, written_of};
 
 use fglm::lex_basis::LexShape;
 use lines::store::line_at;
-use tabtext::print::{
-    count_width, generator_width, header_width, put_count, put_generator, put_header, put_standard,
-    standard_width,
-};
+use tabtext::print::{print_count, print_generator, print_header, print_standard};
+use tabtext::sink::Sink;
 
-fn lines_width(
+fn print_lines<S: Sink>(
+    sink: &mut S,
     counts: &[usize],
     coefficients: &[u16],
     exponents: &[u8],
     lex: LexShape,
     n: usize,
-) -> usize
-    requires { StoredLex lex counts.now coefficients.now exponents.now (LinesFit n) }
-    ensures { (result ≡ length (text (generator_lines n (lex_in lex counts.now coefficients.now exponents.now)))) × (result ≤ (5 + 31 * most_terms) * most_lines) }
+)
+    requires { StoredLex lex counts.now coefficients.now exponents.now (λ b. LinesFit n b × S.takes sink.old (length (text (generator_lines n b)))) }
+    ensures { sink.new ≡ S.after sink.old (text (generator_lines n (lex_in lex counts.now coefficients.now exponents.now))) }
 {
-    let mut w: usize = 0;
-    let mut k: usize = 0;
-    while k < lex.lines {
-        let g = line_at(counts, coefficients, exponents, k);
-        w += generator_width(g, n);
-        k += 1;
-    }
-    w
-}
-
-fn put_lines(
-    out: &mut [u8],
-    at: usize,
-    counts: &[usize],
-    coefficients: &[u16],
-    exponents: &[u8],
-    lex: LexShape,
-    n: usize,
-) -> usize
-    requires { StoredLex lex counts.now coefficients.now exponents.now (λ b. LinesFit n b × Room at (text (generator_lines n b)) out.old) }
-    ensures { Written out.old at (text (generator_lines n (lex_in lex counts.now coefficients.now exponents.now))) out.new result }
-{
-    let mut i = at;
-    let mut j: usize = 0;
-    while j < lex.lines {
+    for j in 0..lex.lines {
         let g = line_at(counts, coefficients, exponents, j);
-        i = put_generator(&mut *out, i, g, n);
-        j += 1;
+        print_generator(&mut *sink, g, n);
     }
-    i
 }
 
-pub fn output_width(
+pub fn print_output<S: Sink>(
+    sink: &mut S,
     counts: &[usize],
     coefficients: &[u16],
     exponents: &[u8],
     lex: LexShape,
     p: u16,
     n: usize,
-) -> usize
-    requires { StoredLex lex counts.now coefficients.now exponents.now (ToPrint p n) }
-    ensures { (h : 1 < p) → result ≡ length (written_of p h n (lex_in lex counts.now coefficients.now exponents.now)) }
-{
-    let front = header_width(b"lex", p, n) + lines_width(counts, coefficients, exponents, lex, n);
-    let back = count_width(b"runs", lex.count as u32) + count_width(b"end", lex.lines as u32);
-    let standard = lex.standard;
-    front + standard_width(standard, lex.count, n) + back
-}
-
-pub fn put_output(
-    out: &mut [u8],
-    counts: &[usize],
-    coefficients: &[u16],
-    exponents: &[u8],
-    lex: LexShape,
-    p: u16,
-    n: usize,
-) -> usize
-    requires { StoredLex lex counts.now coefficients.now exponents.now (λ b. ToPrint p n b × ((h : 1 < p) → Room 0 (written_of p h n b) out.old)) }
-    ensures { let lent = lex_in lex counts.now coefficients.now exponents.now in ((h : 1 < p) → Written out.old 0 (written_of p h n lent) out.new result) }
+)
+    requires { StoredLex lex counts.now coefficients.now exponents.now (λ b. ToPrint p n b × ((h : 1 < p) → S.takes sink.old (length (written_of p h n b)))) }
+    ensures { let lent = lex_in lex counts.now coefficients.now exponents.now in ((h : 1 < p) → sink.new ≡ S.after sink.old (written_of p h n lent)) }
 {
     let standard = lex.standard;
-    let mut i = put_header(&mut *out, 0, b"lex", p, n);
-    i = put_lines(&mut *out, i, counts, coefficients, exponents, lex, n);
-    i = put_standard(&mut *out, i, standard, lex.count, n);
-    i = put_count(&mut *out, i, b"runs", lex.count as u32);
-    put_count(&mut *out, i, b"end", lex.lines as u32)
+    print_header(&mut *sink, b"lex", p, n);
+    print_lines(&mut *sink, counts, coefficients, exponents, lex, n);
+    print_standard(&mut *sink, standard, lex.count, n);
+    print_count(&mut *sink, b"runs", lex.count as u32);
+    print_count(&mut *sink, b"end", lex.lines as u32);
 }

@@ -1,6 +1,6 @@
--- `print::put_output` meets its contract: line by line, what is left of the output.
-use Prim.Native.Nat.{ℕ, ◌<◌}
-use mathlib.Core.Path.{◌≡◌, refl, ap}
+-- `print::print_output` meets its contract: line by line, what is left of the output.
+use Prim.Native.Nat.{◌<◌}
+use mathlib.Core.Path.{◌≡◌, refl, subst}
 use mathlib.Core.List.{◌++◌}
 use borrow.Author.Rules.{rules}
 use native.Mathlib.Omega.{arith}
@@ -16,104 +16,102 @@ use Rattle.fglm.specs.Lex.{LexBasis, lex_in}
 use Rattle.convert.specs.LexText.{generator_lines, written_of}
 use Rattle.convert.proofs.LinePlaces.{held-lines}
 use Rattle.convert.proofs.OutputParts.{output, written-output}
-use Rattle.convert.proofs.print.put_output.Goals.{After-put_header-i, After-put_lines-i, After-put_standard-i, After-put_count-i, Start}
-use Rattle.convert.proofs.print.put_output.Goals as goal
+use Rattle.convert.proofs.print.print_output.Goals.{After-print_header, After-print_lines, After-print_standard, After-print_count, Start}
+use Rattle.convert.proofs.print.print_output.Goals as goal
 
 -- The lex basis that is lent.
-abbrev lent : Start → LexBasis
-lent s = lex_in s.args.lex s.args.counts.now s.args.coefficients.now s.args.exponents.now
+abbrev lent : (g : _) → Start g → LexBasis
+lent g s = lex_in s.args.lex s.args.counts.now s.args.coefficients.now s.args.exponents.now
 
 -- The lines of the output.
-abbrev basis-line : Start → Bytes
-basis-line s = printed (header (bytes "lex") s.args.p s.args.n)
+abbrev basis-line : (g : _) → Start g → Bytes
+basis-line g s = printed (header (bytes "lex") s.args.p s.args.n)
 
-abbrev poly-lines : Start → Bytes
-poly-lines s = text (generator_lines s.args.n (lent s))
+abbrev poly-lines : (g : _) → Start g → Bytes
+poly-lines g s = text (generator_lines s.args.n (lent g s))
 
-abbrev standard-line : Start → Bytes
-standard-line s = printed (standard_line s.args.n s.args.lex.count s.args.lex.standard)
+abbrev standard-line : (g : _) → Start g → Bytes
+standard-line g s = printed (standard_line s.args.n s.args.lex.count s.args.lex.standard)
 
-abbrev points-line : Start → Bytes
-points-line s = count_line (bytes "runs") s.args.lex.count
+abbrev points-line : (g : _) → Start g → Bytes
+points-line g s = count_line (bytes "runs") s.args.lex.count
 
-abbrev end_line : Start → Bytes
-end_line s = count_line (bytes "end") s.args.lex.lines
+abbrev end_line : (g : _) → Start g → Bytes
+end_line g s = count_line (bytes "end") s.args.lex.lines
 
 -- The output is these lines.
-parts : (s : Start) (h : 1 < s.args.p) → written_of s.args.p h s.args.n (lent s) ≡ output s.args.p s.args.n (lent s)
-parts s h =
+parts : (g : _) (s : Start g) (h : 1 < s.args.p) → written_of s.args.p h s.args.n (lent g s) ≡ output s.args.p s.args.n (lent g s)
+parts g s h =
     let w = s.requires.basis.0.printable in
     let m : length s.args.lex.standard ≡ most_standard = search (length-mapped, rules) in
     let k = lines-length s.args.counts.now s.args.coefficients.now s.args.exponents.now in
-    written-output s.args.p h s.args.n (lent s) w (omega (arith, w.lines, k)) (omega (arith, w.count))
+    written-output s.args.p h s.args.n (lent g s) w (omega (arith, w.lines, k)) (omega (arith, w.count))
 
 -- What is left of them.
-abbrev Rest : Start → Bytes → Bytes → ℕ → Type 0
-Rest s rest left i = Left s.args.out.now 0 (output s.args.p s.args.n (lent s)) rest left i
+abbrev Rest : (g : _) → Start g → Bytes → g.row.S.Denot → Type 0
+Rest g s rest now = Left g.S.Sink.takes g.S.Sink.after s.args.sink.now (output s.args.p s.args.n (lent g s)) rest now
 
-all : (s : Start) → Rest s (output s.args.p s.args.n (lent s)) s.args.out.now 0
-all s = let h = s.requires.basis.0.modulus.prime.above_one in left-all refl (omega (arith, s.requires.basis.1 h, ap length (parts s h)))
+all : (g : _) (s : Start g) → Rest g s (output s.args.p s.args.n (lent g s)) s.args.sink.now
+all g s =
+    let h = s.requires.basis.0.modulus.prime.above_one in
+    left-all g.met.S.Sink.laws refl (subst (λ (b : Bytes). g.S.Sink.takes s.args.sink.now (length b)) (parts g s h) (s.requires.basis.1 h))
 
-pub put_header-i-requires : goal.put_header-i-requires
+pub print_header-requires : goal.print_header-requires
 unfolding bytes
-put_header-i-requires c =
-    let s = (goal.at.put_header-i-requires c).Start in
-    (c.requires.basis.0.variables.most, left-room (basis-line s) (poly-lines s ++ (standard-line s ++ (points-line s ++ end_line s))) refl (all s))
+print_header-requires g c =
+    let s = (goal.at.print_header-requires g c).Start in
+    (c.requires.basis.0.variables.most, left-room g.met.S.Sink.laws (basis-line g s) (poly-lines g s ++ (standard-line g s ++ (points-line g s ++ end_line g s))) refl (all g s))
 
-after-header : (c : After-put_header-i) →
-    let s = (goal.at.After-put_header-i c).Start in
-    let p = c.put_header-i in
-    Rest s (poly-lines s ++ (standard-line s ++ (points-line s ++ end_line s))) p.new.out p.result
+after-header : (g : _) (c : After-print_header g) →
+    let s = (goal.at.After-print_header g c).Start in
+    Rest g s (poly-lines g s ++ (standard-line g s ++ (points-line g s ++ end_line g s))) c.print_header.new.sink
 unfolding bytes
-after-header c =
-    let s = (goal.at.After-put_header-i c).Start in
-    left_less (basis-line s) _ refl (all s) c.put_header-i.ensures
+after-header g c =
+    let s = (goal.at.After-print_header g c).Start in
+    left_less g.met.S.Sink.laws (basis-line g s) _ refl (all g s) c.print_header.ensures.printed
 
-pub put_lines-i-requires : goal.put_lines-i-requires
-put_lines-i-requires c =
-    let s = (goal.at.put_lines-i-requires c).Start in
-    let room = left-room (poly-lines s) (standard-line s ++ (points-line s ++ end_line s)) refl (after-header (goal.at.put_lines-i-requires c).After-put_header-i) in
+pub print_lines-requires : goal.print_lines-requires
+print_lines-requires g c =
+    let s = (goal.at.print_lines-requires g c).Start in
+    let room = left-room g.met.S.Sink.laws (poly-lines g s) (standard-line g s ++ (points-line g s ++ end_line g s)) refl (after-header g (goal.at.print_lines-requires g c).After-print_header) in
     record { arrays = c.requires.arrays; basis = (held-lines c.requires.basis.0, room) }
 
-after-lines : (c : After-put_lines-i) →
-    let s = (goal.at.After-put_lines-i c).Start in
-    let p = c.put_lines-i in
-    Rest s (standard-line s ++ (points-line s ++ end_line s)) p.new.out p.result
-after-lines c = left_less _ _ refl (after-header (goal.at.After-put_lines-i c).After-put_header-i) c.put_lines-i.ensures
+after-lines : (g : _) (c : After-print_lines g) →
+    let s = (goal.at.After-print_lines g c).Start in
+    Rest g s (standard-line g s ++ (points-line g s ++ end_line g s)) c.print_lines.new.sink
+after-lines g c = left_less g.met.S.Sink.laws _ _ refl (after-header g (goal.at.After-print_lines g c).After-print_header) c.print_lines.ensures
 
-pub put_standard-i-requires : goal.put_standard-i-requires
-put_standard-i-requires c =
-    let s = (goal.at.put_standard-i-requires c).Start in
+pub print_standard-requires : goal.print_standard-requires
+print_standard-requires g c =
+    let s = (goal.at.print_standard-requires g c).Start in
     let given = c.requires.basis.0 in
-    (given.printable.count, given.variables, left-room (standard-line s) (points-line s ++ end_line s) refl (after-lines (goal.at.put_standard-i-requires c).After-put_lines-i))
+    (given.printable.count, given.variables, left-room g.met.S.Sink.laws (standard-line g s) (points-line g s ++ end_line g s) refl (after-lines g (goal.at.print_standard-requires g c).After-print_lines))
 
-after-standard : (c : After-put_standard-i) →
-    let s = (goal.at.After-put_standard-i c).Start in
-    let p = c.put_standard-i in
-    Rest s (points-line s ++ end_line s) p.new.out p.result
-after-standard c = left_less _ _ refl (after-lines (goal.at.After-put_standard-i c).After-put_lines-i) c.put_standard-i.ensures
+after-standard : (g : _) (c : After-print_standard g) →
+    let s = (goal.at.After-print_standard g c).Start in
+    Rest g s (points-line g s ++ end_line g s) c.print_standard.new.sink
+after-standard g c = left_less g.met.S.Sink.laws _ _ refl (after-lines g (goal.at.After-print_standard g c).After-print_lines) c.print_standard.ensures.printed
 
-pub put_count-i-requires : goal.put_count-i-requires
+pub print_count-requires : goal.print_count-requires
 unfolding bytes
-put_count-i-requires c =
-    let s = (goal.at.put_count-i-requires c).Start in
-    left-room (points-line s) (end_line s) refl (after-standard (goal.at.put_count-i-requires c).After-put_standard-i)
+print_count-requires g c =
+    let s = (goal.at.print_count-requires g c).Start in
+    left-room g.met.S.Sink.laws (points-line g s) (end_line g s) refl (after-standard g (goal.at.print_count-requires g c).After-print_standard)
 
-after-points : (c : After-put_count-i) →
-    let s = (goal.at.After-put_count-i c).Start in
-    let p = c.put_count-i in
-    Rest s (end_line s) p.new.out p.result
+after-points : (g : _) (c : After-print_count g) →
+    let s = (goal.at.After-print_count g c).Start in
+    Rest g s (end_line g s) c.print_count.new.sink
 unfolding bytes
-after-points c = left_less (points-line (goal.at.After-put_count-i c).Start) _ refl (after-standard (goal.at.After-put_count-i c).After-put_standard-i) c.put_count-i.ensures
+after-points g c = left_less g.met.S.Sink.laws (points-line g (goal.at.After-print_count g c).Start) _ refl (after-standard g (goal.at.After-print_count g c).After-print_standard) c.print_count.ensures.printed
 
 pub overflow_cast-lex-2 : goal.overflow_cast-lex-2
-overflow_cast-lex-2 c = omega (arith, c.requires.basis.0.printable.lines)
+overflow_cast-lex-2 g c = omega (arith, c.requires.basis.0.printable.lines)
 
-pub put_count-requires : goal.put_count-requires
+pub print_count-requires-2 : goal.print_count-requires-2
 unfolding bytes
-put_count-requires c = (after-points (goal.at.put_count-requires c).After-put_count-i).room
+print_count-requires-2 g c = (after-points g (goal.at.print_count-requires-2 g c).After-print_count).room
 
 pub returns : goal.returns
 unfolding bytes
-returns c h =
-    rw (parts (goal.at.returns c).Start h) (left-last (after-points (goal.at.returns c).After-put_count-i) c.put_count.ensures)
+returns g c h =
+    rw (parts g (goal.at.returns g c).Start h) (left-last g.met.S.Sink.laws (after-points g (goal.at.returns g c).After-print_count) c.print_count-2.ensures.printed)
