@@ -18,7 +18,6 @@ use Rattle.answer.specs.Answers.{pair, returned, after}
 use Rattle.answer.specs.Finished.{Finished}
 use Rattle.answer.specs.declared.Refusal.TheVariants.{OutputTooShort}
 use Rattle.answer.specs.declared.Refused.{Refused}
-use Rattle.tabtext.specs.Written.{Written}
 use Rattle.convert.specs.Outcome.{Fits}
 
 module _ (out was : Bytes) where
@@ -28,8 +27,8 @@ module _ (out was : Bytes) where
   whole : ¬ (length was < length out) → sets was 0 out ≡ out ++ drop (length out) was
   whole e = sets-eq out was 0 (omega arith) ∙ rw zero-add
 
-  pub finished-enough : {now : Bytes} {n : ℕ} → ¬ (length was < length out) → Written was 0 out now n → Finished out was now (Ok n)
-  finished-enough e w = record { short = λ h. absurd (e h); enough = λ _. (ap Ok (omega (arith, w.place)), w.bytes ∙ whole e) }
+  pub finished-enough : {now : Bytes} {n : ℕ} → ¬ (length was < length out) → now ≡ sets was 0 out → n ≡ length out → Finished out was now (Ok n)
+  finished-enough e w k = record { short = λ h. absurd (e h); enough = λ _. (ap Ok k, w ∙ whole e) }
 
   pub finished-outcome : {left : Bytes} {r : Result ℕ Refused} → Finished out was left r
       → (o : Judged Bytes) × Fits (length was) out o × (pair r ≡ returned o) × (left ≡ after o was)

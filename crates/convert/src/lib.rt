@@ -12,7 +12,7 @@ ghost use Rattle.convert.specs.LexText.{ToPrint, written_of};
 ghost use Rattle.convert.specs.Finished.{PassedBasis, FinishedBasis};
 ghost use Rattle.convert.specs.Contract.{Meets};
 
-use crate::print::{output_width, put_output};
+use crate::print::print_output;
 use acceptance::text::check_text;
 use answer::{Answer, Refusal};
 use fglm::enumeration::enumerate;
@@ -24,11 +24,12 @@ use monomial::order::x1_to_xn;
 use multiplication::rows::MAX_CELLS;
 use residue::reciprocals::Reciprocals;
 use staircase::irreducible::Irreducibles;
+use tabtext::sink::{Count, Front};
 use tabtext::sizes::MAX_BYTES;
 
 pub mod print;
 
-// The output, if it has room; otherwise nothing is written (document 01, refusal 16).
+// The output, if it has room: first its bytes are counted, then they are written; otherwise nothing is written (document 01, refusal 16).
 fn finish(
     output: &mut [u8],
     counts: &[usize],
@@ -41,10 +42,14 @@ fn finish(
     requires { StoredLex lex counts.now coefficients.now exponents.now (ToPrint p n) }
     ensures { let lent = lex_in lex counts.now coefficients.now exponents.now in ((h : 1 < p) → Finished (written_of p h n lent) output.old output.new result) }
 {
-    if output.len() < output_width(counts, coefficients, exponents, lex, p, n) {
+    let mut count = Count { bytes: 0 };
+    print_output(&mut count, counts, coefficients, exponents, lex, p, n);
+    if output.len() < count.bytes {
         return Err(Refusal::OutputTooShort.at(0));
     }
-    Ok(put_output(&mut *output, counts, coefficients, exponents, lex, p, n))
+    let mut front = Front { out: output, at: 0 };
+    print_output(&mut front, counts, coefficients, exponents, lex, p, n);
+    Ok(front.at)
 }
 
 // The conversion of a basis that passed checks 2 to 15, with its irreducible monomials and multiplication rows; and check 16.
