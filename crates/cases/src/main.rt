@@ -27,14 +27,7 @@ fn print_unchanged<W: Write>(out: &mut W, same: bool) -> io::Result<()> {
 
 // No byte from place `from` on has changed.
 fn unchanged(output: &[u8], from: usize) -> bool {
-    let mut i = from;
-    while i < output.len() {
-        if output[i] != BEFORE {
-            return false;
-        }
-        i += 1;
-    }
-    true
+    output.iter().skip(from).all(|&byte| byte == BEFORE)
 }
 
 fn marked_buffer() -> [u8; MAX_BYTES]
@@ -56,12 +49,12 @@ fn print_with_room<W: Write>(out: &mut W, input: &[u8], room: usize) -> io::Resu
     let mut output = marked_buffer();
     let answer = convert_within(input, &mut output, room);
     match answer {
-        Answer::Accepted(size) => {
+        Ok(size) => {
             writeln!(out, "accepted\t{size}")?;
             print_unchanged(out, unchanged(&output, size))
         }
-        Answer::Refused(r, line) => {
-            print_refusal(out, r, line)?;
+        Err(refused) => {
+            print_refusal(out, refused)?;
             print_unchanged(out, unchanged(&output, 0))
         }
     }
@@ -70,15 +63,13 @@ fn print_with_room<W: Write>(out: &mut W, input: &[u8], room: usize) -> io::Resu
 fn run<W: Write>(out: &mut W, input: &[u8]) -> io::Result<()> {
     let (answer, printed) = print_converted(out, input);
     printed?;
-    match answer {
-        Answer::Accepted(size) => {
-            if 0 < size {
-                print_with_room(out, input, size - 1)?;
-            }
-            print_with_room(out, input, size)
-        }
-        Answer::Refused(_, _) => Ok(()),
+    let Ok(size) = answer else {
+        return Ok(());
+    };
+    if 0 < size {
+        print_with_room(out, input, size - 1)?;
     }
+    print_with_room(out, input, size)
 }
 
 // The text in an open file of that name.

@@ -10,7 +10,7 @@ ghost use Rattle.tabtext.specs.Sizes.{most_bytes};
 ghost use Rattle.convert.specs.Contract.{Meets};
 ghost use Rattle.convert.specs.Outcome.{Outcome};
 
-use answer::{Answer, Refusal};
+use answer::{Answer, Refused};
 use convert::convert;
 use std::io;
 use std::io::{Read, Write};
@@ -45,9 +45,8 @@ pub fn read_full<R: Read>(reader: &mut R, buffer: &mut [u8]) -> io::Result<usize
     Ok(done)
 }
 
-pub fn print_refusal<W: Write>(out: &mut W, r: Refusal, line: usize) -> io::Result<()> {
-    let number = r.number();
-    writeln!(out, "refused\t{number}\t{line}")
+pub fn print_refusal<W: Write>(out: &mut W, refused: Refused) -> io::Result<()> {
+    writeln!(out, "{refused}")
 }
 
 fn print_bytes<W: Write>(out: &mut W, output: &[u8], size: usize) -> io::Result<()>
@@ -72,8 +71,8 @@ pub fn print_converted<W: Write>(out: &mut W, input: &[u8]) -> (Answer, io::Resu
     let mut output = output_buffer();
     let answer = judge(input, &mut output);
     let printed = match answer {
-        Answer::Accepted(size) => print_bytes(out, &output, size),
-        Answer::Refused(r, line) => print_refusal(out, r, line),
+        Ok(size) => print_bytes(out, &output, size),
+        Err(refused) => print_refusal(out, refused),
     };
     (answer, printed)
 }

@@ -1,12 +1,11 @@
 // The conversion as a static library, for callers in other languages: a pointer and a length for each buffer.
 #![tactic(auto)]
 
-ghost use Rattle.std.specs.Prelude.{◌≡◌};
+ghost use Rattle.std.specs.Prelude.{ℕ, ◌≡◌, Result};
 ghost use Rattle.answer.specs.Answers.{pair};
-ghost use Rattle.answer.specs.declared.Answer.{Answer as Answers};
+ghost use Rattle.answer.specs.declared.Refused.{Refused};
 ghost use Rattle.convert.specs.Contract.{Meets};
 
-use answer::Answer;
 use convert::convert;
 
 // Document 01's pair: 0 and the length written, or the number of the refusal and its line.
@@ -19,17 +18,16 @@ pub struct Pair {
 
 #[unsafe(no_mangle)]
 pub extern "C" fn juirkes_convert(input: &[u8], output: &mut [u8]) -> Pair
-    ensures { (a : Answers) × Meets input.now output.old output.new a × (pair a ≡ (result.number, result.value)) }
+    ensures { (a : Result ℕ Refused) × Meets input.now output.old output.new a × (pair a ≡ (result.number, result.value)) }
 {
-    let answer = convert(input, &mut *output);
-    match answer {
-        Answer::Accepted(size) => Pair {
+    match convert(input, &mut *output) {
+        Ok(size) => Pair {
             number: 0,
             value: size as u64,
         },
-        Answer::Refused(r, line) => Pair {
-            number: r.number() as u64,
-            value: line as u64,
+        Err(refused) => Pair {
+            number: refused.refusal.number() as u64,
+            value: refused.line as u64,
         },
     }
 }

@@ -1,9 +1,0 @@
--- `unchanged` ends: each turn looks at one byte more.
-use Rattle.std.proofs.Common.{length, ◌-◌}
-use Rattle.cases.proofs.unchanged.Given as goal
-
-abbrev pub invariant-loop-i : goal.invariant-loop-i
-invariant-loop-i l = Unit {0}
-
-abbrev pub decreases-loop-i : goal.decreases-loop-i
-decreases-loop-i l = length l.output - l.i
