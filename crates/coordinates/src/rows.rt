@@ -1,7 +1,5 @@
 // Rows: vectors that stand in a lent array of numbers, the coefficients of each one after another.
-ghost use Rattle.std.specs.Prelude.{◌≡◌, ◌+◌, ◌-◌, ◌/◌, ◌<◌, ◌≤◌, length};
-ghost use Rattle.residue.specs.Prime.{Modulus};
-ghost use Rattle.residue.specs.Word.{word};
+ghost use Rattle.std.specs.Prelude.{◌≡◌, ◌+◌, ◌<◌, ◌≤◌, length};
 ghost use Rattle.lines.specs.Sizes.{most_standard};
 ghost use Rattle.coordinates.specs.Vectors.{Below};
 ghost use Rattle.coordinates.specs.Rows.{row_in, RowPut, AddedMultiple};
@@ -9,7 +7,7 @@ ghost use Rattle.coordinates.specs.Rows.{row_in, RowPut, AddedMultiple};
 use crate::Coordinates;
 use lines::sizes::MAX_STANDARD;
 use residue::Residue;
-use residue::word::reduce;
+use residue::field::PrimeField;
 
 // The row whose first coefficient stands at a place.
 pub fn row_at(cells: &[u16], at: usize) -> Coordinates
@@ -33,21 +31,19 @@ pub fn put_row(cells: &mut [u16], at: usize, row: Coordinates)
     }
 }
 
-// r + c times the row at a place, for the quotient `over` of the largest u16 by p.
+// r + c times the row at a place.
 pub fn add_multiple(
     mut r: Coordinates,
     c: u16,
     cells: &[u16],
     at: usize,
-    over: u16,
-    p: u16,
+    field: PrimeField,
 ) -> Coordinates
-    requires { (at + most_standard ≤ length cells.now) × Modulus p × (over ≡ (word - 1) / p)
-        × (c < p) × Below p r × Below p (row_in cells.now at) }
-    ensures { AddedMultiple p r c (row_in cells.now at) result }
+    requires { (at + most_standard ≤ length cells.now) × (c < field.p) × Below field.p r × Below field.p (row_in cells.now at) }
+    ensures { AddedMultiple field.p r c (row_in cells.now at) result }
 {
     for k in 0..MAX_STANDARD {
-        r.c[k] = reduce(r.c[k].0 + c * cells[at + k], over, p);
+        r.c[k] = field.reduce(r.c[k].0 + c * cells[at + k]);
     }
     r
 }

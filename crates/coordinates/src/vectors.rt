@@ -1,13 +1,12 @@
 // Multiples and differences of vectors, their first nonzero places, and whether two are the same. No turn of a loop divides.
 ghost use Rattle.std.specs.Prelude.{◌≡◌, true, ◌↔◌, ℕ, ◌<◌, ◌≤◌};
-ghost use Rattle.residue.specs.Prime.{Modulus};
 ghost use Rattle.lines.specs.Sizes.{most_standard};
 ghost use Rattle.coordinates.specs.Vectors.{coordinate, Below, Cut, Represents, subtracted, multiplied, unit_vector, FirstPlace};
 
 use crate::Coordinates;
 use lines::sizes::MAX_STANDARD;
 use residue::Residue;
-use residue::word::{reduce, word_over};
+use residue::field::PrimeField;
 
 // A pivot: the first place that is not zero. Of a vector that is zero there is none: it depends on those before it.
 #[derive(Clone, Copy)]
@@ -17,28 +16,31 @@ pub enum Found {
 }
 
 // a - c·b, as a + (p - c)·b
-pub fn subtract_multiple(a: Coordinates, c: Residue, other: Coordinates, p: u16) -> Coordinates
-    requires { Modulus p × Below p a × (c.0 < p) × Below p other }
-    ensures { Represents p result (subtracted p a c.0 other) }
+pub fn subtract_multiple(
+    a: Coordinates,
+    c: Residue,
+    other: Coordinates,
+    field: PrimeField,
+) -> Coordinates
+    requires { Below field.p a × (c.0 < field.p) × Below field.p other }
+    ensures { Represents field.p result (subtracted field.p a c.0 other) }
 {
-    let over = word_over(p);
-    let minus_c = p - c.0;
+    let minus_c = field.p - c.0;
     let mut r = a;
     for k in 0..MAX_STANDARD {
-        r.c[k] = reduce(a.c[k].0 + minus_c * other.c[k].0, over, p);
+        r.c[k] = field.reduce(a.c[k].0 + minus_c * other.c[k].0);
     }
     r
 }
 
 // c·a
-pub fn multiply(c: Residue, a: Coordinates, p: u16) -> Coordinates
-    requires { Modulus p × (c.0 < p) × Below p a }
-    ensures { Represents p result (multiplied p c.0 a) }
+pub fn multiply(c: Residue, a: Coordinates, field: PrimeField) -> Coordinates
+    requires { (c.0 < field.p) × Below field.p a }
+    ensures { Represents field.p result (multiplied field.p c.0 a) }
 {
-    let over = word_over(p);
     let mut r = a;
     for k in 0..MAX_STANDARD {
-        r.c[k] = reduce(c.0 * a.c[k].0, over, p);
+        r.c[k] = field.reduce(c.0 * a.c[k].0);
     }
     r
 }

@@ -137,7 +137,7 @@ filled-over p t a f h n = record {
   before = λ k l m. ⊎_elim (λ e. subst (Has t) (sym e) n) (λ u. f.before k l u) (eq-or-lt_of_le (omega arith));
 }
 
-pub filled-stop : (p : ℕ) (t : List ℕ) (a : ℕ) → TableFilled p t a → p ≤ a → Serves (record { p = p; table = t })
+pub filled-stop : (p : ℕ) (t : List ℕ) (a : ℕ) → TableFilled p t a → p ≤ a → Serves p t
 filled-stop p t a f h = record {
   size = f.modulus.size;
   residue = λ k l m. (f.right k (f.before k l (omega arith))).below;

@@ -1,6 +1,7 @@
 // Residues modulo a prime p of at most 251 (document 01, "Words and orders").
 //
 //   Residue       a residue, a type of its own so that an exponent cannot pass as one
+//   field         the integers modulo a prime, as a type
 //   prime         the test of a modulus
 //   reciprocals   the table of reciprocals
 //   word          remainders with no division
@@ -11,6 +12,7 @@ ghost use Rattle.residue.specs.Prime.{largest_modulus};
 ghost use Rattle.residue.specs.Modular.{sum_mod, negation_mod, product_mod};
 ghost use Rattle.residue.specs.Differences.{difference_mod};
 
+pub mod field;
 pub mod prime;
 pub mod reciprocals;
 pub mod word;

@@ -1,23 +1,26 @@
 // Reciprocals modulo p, from a table filled once for each p by counting (document 01, "Words and orders").
 ghost use Rattle.std.specs.Prelude.{◌≡◌, ℕ, ◌<◌};
-ghost use Rattle.residue.specs.Prime.{Modulus};
 ghost use Rattle.residue.specs.Modular.{product_mod};
 ghost use Rattle.residue.specs.Reciprocals.{Serves};
 
 use crate::Residue;
+use crate::field::PrimeField;
 use crate::prime::LARGEST_MODULUS;
 
+// A field, and the reciprocal of each of its residues but zero.
 #[derive(Clone, Copy)]
 pub struct Reciprocals {
-    pub p: u16,
+    pub field: PrimeField,
     pub table: [u16; LARGEST_MODULUS as usize],
+    pub ghost serves: { Serves field.p table },
 }
 
 // The reciprocal of a, if none is below a: b counts up from a, with a·b beside it, until a·b is 1. Where none below p - 1 is, p - 1 is.
-fn counted(a: Residue, p: u16) -> Residue
-    requires { Modulus p × (0 < a.0) × (a.0 < p) × ((b : ℕ) → b < a.0 → ¬ (product_mod p a.0 b ≡ 1)) }
-    ensures { (product_mod p a.0 result.0 ≡ 1) × (result.0 < p) }
+fn counted(a: Residue, field: PrimeField) -> Residue
+    requires { (0 < a.0) × (a.0 < field.p) × ((b : ℕ) → b < a.0 → ¬ (product_mod field.p a.0 b ≡ 1)) }
+    ensures { (product_mod field.p a.0 result.0 ≡ 1) × (result.0 < field.p) }
 {
+    let p = field.p;
     let mut multiple = a.mul(a, p);
     for b in a.0..p - 1 {
         if multiple == Residue::ONE {
@@ -30,24 +33,23 @@ fn counted(a: Residue, p: u16) -> Residue
 
 impl Reciprocals {
     // Each reciprocal that is found is stored for both numbers of the pair.
-    pub fn new(p: u16) -> Reciprocals
-        requires { Modulus p }
-        ensures { (result.p ≡ p) × Serves result }
+    pub fn new(field: PrimeField) -> Reciprocals
+        ensures { result.field ≡ field }
     {
         let mut table = [0u16; LARGEST_MODULUS as usize];
-        for a in 1..p {
+        for a in 1..field.p {
             if table[a as usize] == 0 {
-                let b = counted(Residue(a), p).0;
+                let b = counted(Residue(a), field).0;
                 table[a as usize] = b;
                 table[b as usize] = a;
             }
         }
-        Reciprocals { p, table }
+        Reciprocals { field, table }
     }
 
     pub fn of(self, a: Residue) -> Residue
-        requires { Serves self × (0 < a.0) × (a.0 < self.p) }
-        ensures { (product_mod self.p a.0 result.0 ≡ 1) × (result.0 < self.p) }
+        requires { (0 < a.0) × (a.0 < self.field.p) }
+        ensures { (product_mod self.field.p a.0 result.0 ≡ 1) × (result.0 < self.field.p) }
     {
         let at = a.0 as usize;
         let b = self.table[at];

@@ -32,9 +32,9 @@ fits : (c : In-loop-k) → let a = c.args in
     coordinate c.loop-k.r c.loop-k.k + a.c * get_or a.cells.now (a.at + c.loop-k.k) 0 < word
 fits c =
     let a = c.args in
-    let (_, modulus, _, l, b, t) = c.requires in
-    let x = subst (◌< a.p) (row-coordinate a.cells.now a.at c.loop-k.k c.loop-k-test.true) (t.below c.loop-k.k) in
-    omega (arith, same c, b.below c.loop-k.k, product-bound a.p a.c (get_or a.cells.now (a.at + c.loop-k.k) 0) modulus.size l x)
+    let (_, l, b, t) = c.requires in
+    let x = subst (◌< a.field.p) (row-coordinate a.cells.now a.at c.loop-k.k c.loop-k-test.true) (t.below c.loop-k.k) in
+    omega (arith, same c, b.below c.loop-k.k, product-bound a.field.p a.c (get_or a.cells.now (a.at + c.loop-k.k) 0) a.field.prime.size l x)
 
 pub overflow_mul-c : goal.overflow_mul-c
 overflow_mul-c c = omega (arith, fits (goal.at.overflow_mul-c c).In-loop-k)
@@ -42,21 +42,18 @@ overflow_mul-c c = omega (arith, fits (goal.at.overflow_mul-c c).In-loop-k)
 pub overflow_add-r : goal.overflow_add-r
 overflow_add-r c = omega (arith, fits (goal.at.overflow_add-r c).In-loop-k)
 
-pub reduce-requires : goal.reduce-requires
-reduce-requires c = let (_, modulus, over, _, _, _) = c.requires in (omega (arith, modulus.prime.above_one), over)
-
 pub loop-k-preserved : goal.loop-k-preserved
 loop-k-preserved c =
     let a = c.args in
-    let e = ap (λ x. (x + a.c * get_or a.cells.now (a.at + c.loop-k.k) 0) % a.p) (same (goal.at.loop-k-preserved c).In-loop-k) in
+    let e = ap (λ x. (x + a.c * get_or a.cells.now (a.at + c.loop-k.k) 0) % a.field.p) (same (goal.at.loop-k-preserved c).In-loop-k) in
     stored_more _ _ _ _ c.loop-k.k _ c.loop-k.invariant (omega (arith, size (goal.at.loop-k-preserved c).Start)) (c.reduce.ensures.0 ∙ e, c.reduce.ensures.1)
 
 pub returns : goal.returns
 returns c =
     let i = c.loop-k.invariant in
     let a = c.args in
-    let (_, _, _, _, b, _) = c.requires in
+    let (_, _, b, _) = c.requires in
     record {
-      below = record { below = λ j. by_cases (dec_lt j c.loop-k.k) (λ h. (i.stored j h).1) (λ h. subst (λ (x : Residue). x.0 < a.p) (sym (i.kept j (omega arith))) (b.below j)) };
-      sums = λ j h. (i.stored j (omega arith)).0 ∙ ap (λ x. (coordinate a.r j + a.c * x) % a.p) (sym (row-coordinate a.cells.now a.at j h));
+      below = record { below = λ j. by_cases (dec_lt j c.loop-k.k) (λ h. (i.stored j h).1) (λ h. subst (λ (x : Residue). x.0 < a.field.p) (sym (i.kept j (omega arith))) (b.below j)) };
+      sums = λ j h. (i.stored j (omega arith)).0 ∙ ap (λ x. (coordinate a.r j + a.c * x) % a.field.p) (sym (row-coordinate a.cells.now a.at j h));
     }

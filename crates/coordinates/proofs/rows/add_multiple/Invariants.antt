@@ -7,4 +7,4 @@ use Rattle.coordinates.specs.Vectors.{coordinate}
 use Rattle.coordinates.proofs.rows.add_multiple.Given as goal
 
 abbrev pub invariant-loop-k : goal.invariant-loop-k
-invariant-loop-k l = FilledTo (λ j x. (x.0 ≡ (coordinate l.initial.r j + l.c * get_or l.cells (l.at + j) 0) % l.p) × (x.0 < l.p)) (record { 0 = 0 }) l.initial.r.c l.r.c l.k
+invariant-loop-k l = FilledTo (λ j x. (x.0 ≡ (coordinate l.initial.r j + l.c * get_or l.cells (l.at + j) 0) % l.field.p) × (x.0 < l.field.p)) (record { 0 = 0 }) l.initial.r.c l.r.c l.k

@@ -12,19 +12,13 @@ use Rattle.coordinates.proofs.vectors.multiply.Goals as goal
 size : (c : Start) → FullLength c.args.a
 size c = search (length-mapped, rules)
 
-pub word_over-over-requires : goal.word_over-over-requires
-word_over-over-requires c = omega (arith, c.requires.0.prime.above_one)
-
 pub loop-k-init : goal.loop-k-init
 loop-k-init c = filled-start (size (goal.at.loop-k-init c).Start)
 
 pub overflow_mul-c : goal.overflow_mul-c
 overflow_mul-c c =
-    let (modulus, c-below, a-below) = c.requires in
-    omega (arith, product-bound c.args.p c.args.c.0 (coordinate c.args.a c.loop-k.k) modulus.size c-below (a-below.below c.loop-k.k))
-
-pub reduce-requires : goal.reduce-requires
-reduce-requires c = (omega (arith, c.requires.0.prime.above_one), c.word_over-over.ensures)
+    let (c-below, a-below) = c.requires in
+    omega (arith, product-bound _ c.args.c.0 (coordinate c.args.a c.loop-k.k) c.args.field.prime.size c-below (a-below.below c.loop-k.k))
 
 pub loop-k-preserved : goal.loop-k-preserved
 loop-k-preserved c =

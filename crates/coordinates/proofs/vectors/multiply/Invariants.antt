@@ -5,4 +5,4 @@ use Rattle.coordinates.proofs.FilledVectors.{FilledVector}
 use Rattle.coordinates.proofs.vectors.multiply.Given as goal
 
 abbrev pub invariant-loop-k : goal.invariant-loop-k
-invariant-loop-k l = FilledVector l.p (λ j. l.c.0 * coordinate l.a j % l.p) l.r l.k
+invariant-loop-k l = FilledVector l.field.p (λ j. l.c.0 * coordinate l.a j % l.field.p) l.r l.k

@@ -14,26 +14,20 @@ use Rattle.coordinates.proofs.vectors.subtract_multiple.Goals as goal
 size : (c : Start) → FullLength c.args.a × FullLength c.args.other
 size c = (search (length-mapped, rules), search (length-mapped, rules))
 
-pub word_over-over-requires : goal.word_over-over-requires
-word_over-over-requires c = omega (arith, c.requires.0.prime.above_one)
-
 pub loop-k-init : goal.loop-k-init
 loop-k-init c = filled-start (size (goal.at.loop-k-init c).Start).0
 
 -- The number whose remainder is taken fits.
-fits : (c : In-loop-k) → let a = c.args in coordinate a.a c.loop-k.k + (a.p - a.c.0) * coordinate a.other c.loop-k.k < word
+fits : (c : In-loop-k) → let a = c.args in coordinate a.a c.loop-k.k + (a.field.p - a.c.0) * coordinate a.other c.loop-k.k < word
 fits c =
-    let (modulus, a, _, b) = c.requires in
-    less-fits _ _ _ _ modulus.size (a.below c.loop-k.k) (b.below c.loop-k.k)
+    let (a, _, b) = c.requires in
+    less-fits _ _ _ _ c.args.field.prime.size (a.below c.loop-k.k) (b.below c.loop-k.k)
 
 pub overflow_mul-minus_c : goal.overflow_mul-minus_c
 overflow_mul-minus_c c = omega (arith, fits c)
 
 pub overflow_add-a : goal.overflow_add-a
 overflow_add-a c = omega (arith, fits c)
-
-pub reduce-requires : goal.reduce-requires
-reduce-requires c = (omega (arith, c.requires.0.prime.above_one), c.word_over-over.ensures)
 
 pub loop-k-preserved : goal.loop-k-preserved
 loop-k-preserved c =
@@ -43,4 +37,4 @@ pub returns : goal.returns
 returns c =
     let i = c.loop-k.invariant in
     let (u, v) = size (goal.at.returns c).Start in
-    subtracted-entries _ _ i.whole (filled-below i (omega arith) (omega arith)) _ _ _ u v c.requires.2 (filled-entries i (omega arith))
+    subtracted-entries _ _ i.whole (filled-below i (omega arith) (omega arith)) _ _ _ u v c.requires.1 (filled-entries i (omega arith))

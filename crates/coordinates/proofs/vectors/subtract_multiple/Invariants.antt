@@ -5,4 +5,4 @@ use Rattle.coordinates.proofs.FilledVectors.{FilledVector}
 use Rattle.coordinates.proofs.vectors.subtract_multiple.Given as goal
 
 abbrev pub invariant-loop-k : goal.invariant-loop-k
-invariant-loop-k l = FilledVector l.p (λ j. (coordinate l.a j + l.minus_c * coordinate l.other j) % l.p) l.r l.k
+invariant-loop-k l = FilledVector l.field.p (λ j. (coordinate l.a j + l.minus_c * coordinate l.other j) % l.field.p) l.r l.k

@@ -6,18 +6,18 @@ use Rattle.residue.proofs.reciprocals.counted.Goals as goal
 
 pub mul-multiple-requires : goal.mul-multiple-requires
 mul-multiple-requires c =
-    let (m, _, k, _) = c.requires in
-    (k, k, m.size)
+    let (_, k, _) = c.requires in
+    (k, k, c.args.field.prime.size)
 
 pub loop-b-init : goal.loop-b-init
 loop-b-init c =
-    let (m, h, k, n) = c.requires in
-    rw c.mul-multiple.ensures.0 (counting-start _ _ m.prime h k n)
+    let (h, k, n) = c.requires in
+    rw c.mul-multiple.ensures.0 (counting-start _ _ c.args.field.prime.prime h k n)
 
 pub add-multiple-requires : goal.add-multiple-requires
 add-multiple-requires c =
-    let (m, _, k, _) = c.requires in
-    (counting-below _ _ _ _ c.loop-b.invariant, k, m.size)
+    let (_, k, _) = c.requires in
+    (counting-below _ _ _ _ c.loop-b.invariant, k, c.args.field.prime.size)
 
 pub returns-then-eq : goal.returns-then-eq
 returns-then-eq c =

@@ -1,5 +1,5 @@
 -- `Reciprocals::new` meets its contract. The loop's invariant: the table has the reciprocals of the numbers below a, and their pairs.
-use mathlib.Core.Path.{refl, sym, subst}
+use mathlib.Core.Path.{sym, subst}
 use mathlib.Core.List.{List}
 use Prim.Native.Nat.{ℕ, ◌+◌}
 use Rattle.residue.proofs.Filling.{TableFilled, reciprocals-none, filled-none-below, reciprocals-more, filled-over, filled-stop}
@@ -7,17 +7,17 @@ use Rattle.residue.proofs.reciprocals.Reciprocals.new.Goals.{then-table-a-eq0, e
 use Rattle.residue.proofs.reciprocals.Reciprocals.new.Goals as goal
 
 pub loop-a-init : goal.loop-a-init
-loop-a-init c = reciprocals-none _ c.requires
+loop-a-init c = reciprocals-none _ c.args.field.prime
 
 pub counted-b-requires : goal.counted-b-requires
 counted-b-requires c =
     let l = c.loop-a-test.true in
-    (c.requires, c.loop-a.invariant.above_zero, l, filled-none-below _ _ _ c.loop-a.invariant l c.if-table-a-eq0.true)
+    (c.loop-a.invariant.above_zero, l, filled-none-below _ _ _ c.loop-a.invariant l c.if-table-a-eq0.true)
 
 pub loop-a-preserved : goal.loop-a-preserved
 loop-a-preserved c =
     let l = c.loop-a-test.true in
-    let filled : List ℕ → Type 0 = λ t. TableFilled c.args.p t (c.loop-a.a + 1) in
+    let filled : List ℕ → Type 0 = λ t. TableFilled c.args.field.p t (c.loop-a.a + 1) in
     elim c.if-table-a-eq0.branch [
       | then-table-a-eq0 w ↦
           let b = w.counted-b.ensures in
@@ -25,5 +25,5 @@ loop-a-preserved c =
       | else-table-a-eq0 w ↦ subst filled (sym w.table-is) (filled-over _ _ _ c.loop-a.invariant l w.if-table-a-eq0.false)
     ]
 
-pub returns : goal.returns
-returns c = (refl, filled-stop _ _ _ c.loop-a.invariant c.loop-a-test.false)
+pub invariant_of-result : goal.invariant_of-result
+invariant_of-result c = record { serves = filled-stop _ _ _ c.loop-a.invariant c.loop-a-test.false }

@@ -3,4 +3,4 @@ use Rattle.residue.proofs.Filling.{TableFilled}
 use Rattle.residue.proofs.reciprocals.Reciprocals.new.Given as goal
 
 abbrev pub invariant-loop-a : goal.invariant-loop-a
-invariant-loop-a l = TableFilled l.p l.table l.a
+invariant-loop-a l = TableFilled l.field.p l.table l.a

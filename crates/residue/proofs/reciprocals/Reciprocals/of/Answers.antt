@@ -3,5 +3,6 @@ use Rattle.residue.proofs.reciprocals.Reciprocals.of.Goals as goal
 
 pub returns : goal.returns
 returns c =
-    let (s, h, k) = c.requires in
+    let s = c.args.self.serves in
+    let (h, k) = c.requires in
     (s.inverse _ h k, s.residue _ h k)
