@@ -1,6 +1,5 @@
 // The test of check 15: whether the rows of the products typeof.x_i.B_s commute.
 ghost use Rattle.std.specs.Prelude.{◌≡◌, true, ◌↔◌, ℕ, ◌<◌, ◌≤◌};
-ghost use Rattle.residue.specs.Prime.{Modulus};
 ghost use Rattle.residue.specs.Field.{modulo};
 ghost use Rattle.monomial.specs.Sizes.{most_variables};
 ghost use Rattle.groebner.specs.MultiplicationRows.{RowsCommute};
@@ -10,24 +9,32 @@ ghost use Rattle.multiplication.specs.Rows.{tables_of, Cells, cell_of, CommuteAt
 use crate::rows::{row_start, times_variable};
 use coordinates::rows::row_at;
 use coordinates::vectors::same_coordinates;
+use residue::field::PrimeField;
 
 // Whether x_i·(typeof.x_j.B_s) and x_j·(typeof.x_i.B_s) have the same coordinates.
-fn commute_at(cells: &[u16], i: usize, j: usize, place: usize, count: usize, p: u16) -> bool
-    requires { Modulus p × Cells p cells.now × (i < most_variables) × (j < most_variables) × (count ≤ most_standard) × (place < count) }
-    ensures { (h : 1 < p) → (result ≡ true) ↔ CommuteAt p h (tables_of cells.now) count i j place }
+fn commute_at(
+    cells: &[u16],
+    i: usize,
+    j: usize,
+    place: usize,
+    count: usize,
+    field: PrimeField,
+) -> bool
+    requires { Cells field.p cells.now × (i < most_variables) × (j < most_variables) × (count ≤ most_standard) × (place < count) }
+    ensures { (h : 1 < field.p) → (result ≡ true) ↔ CommuteAt field.p h (tables_of cells.now) count i j place }
 {
-    let a = times_variable(cells, i, row_at(cells, row_start(j, place)), count, p);
-    let b = times_variable(cells, j, row_at(cells, row_start(i, place)), count, p);
+    let a = times_variable(cells, i, row_at(cells, row_start(j, place)), count, field);
+    let b = times_variable(cells, j, row_at(cells, row_start(i, place)), count, field);
     same_coordinates(a, b)
 }
 
 // Whether the rows of x_i and x_j commute.
-fn commute_pair(cells: &[u16], i: usize, j: usize, count: usize, p: u16) -> bool
-    requires { Modulus p × Cells p cells.now × (i < most_variables) × (j < most_variables) × (count ≤ most_standard) }
-    ensures { (h : 1 < p) → (result ≡ true) ↔ ((s : ℕ) → s < count → CommuteAt p h (tables_of cells.now) count i j s) }
+fn commute_pair(cells: &[u16], i: usize, j: usize, count: usize, field: PrimeField) -> bool
+    requires { Cells field.p cells.now × (i < most_variables) × (j < most_variables) × (count ≤ most_standard) }
+    ensures { (h : 1 < field.p) → (result ≡ true) ↔ ((s : ℕ) → s < count → CommuteAt field.p h (tables_of cells.now) count i j s) }
 {
     for s in 0..count {
-        if !commute_at(cells, i, j, s, count, p) {
+        if !commute_at(cells, i, j, s, count, field) {
             return false;
         }
     }
@@ -35,12 +42,12 @@ fn commute_pair(cells: &[u16], i: usize, j: usize, count: usize, p: u16) -> bool
 }
 
 // Whether the rows of each variable before x_j commute with those of x_j.
-fn commute_before(cells: &[u16], j: usize, count: usize, p: u16) -> bool
-    requires { Modulus p × Cells p cells.now × (j < most_variables) × (count ≤ most_standard) }
-    ensures { (h : 1 < p) → (result ≡ true) ↔ ((i : ℕ) → i < j → (s : ℕ) → s < count → CommuteAt p h (tables_of cells.now) count i j s) }
+fn commute_before(cells: &[u16], j: usize, count: usize, field: PrimeField) -> bool
+    requires { Cells field.p cells.now × (j < most_variables) × (count ≤ most_standard) }
+    ensures { (h : 1 < field.p) → (result ≡ true) ↔ ((i : ℕ) → i < j → (s : ℕ) → s < count → CommuteAt field.p h (tables_of cells.now) count i j s) }
 {
     for i in 0..j {
-        if !commute_pair(cells, i, j, count, p) {
+        if !commute_pair(cells, i, j, count, field) {
             return false;
         }
     }
@@ -48,12 +55,12 @@ fn commute_before(cells: &[u16], j: usize, count: usize, p: u16) -> bool
 }
 
 // Whether all rows commute.
-pub fn commute(cells: &[u16], n: usize, count: usize, p: u16) -> bool
-    requires { Modulus p × Cells p cells.now × (n ≤ most_variables) × (count ≤ most_standard) }
-    ensures { (h : 1 < p) → (result ≡ true) ↔ RowsCommute (modulo p h) n count (cell_of p h (tables_of cells.now)) }
+pub fn commute(cells: &[u16], n: usize, count: usize, field: PrimeField) -> bool
+    requires { Cells field.p cells.now × (n ≤ most_variables) × (count ≤ most_standard) }
+    ensures { (h : 1 < field.p) → (result ≡ true) ↔ RowsCommute (modulo field.p h) n count (cell_of field.p h (tables_of cells.now)) }
 {
     for j in 0..n {
-        if !commute_before(cells, j, count, p) {
+        if !commute_before(cells, j, count, field) {
             return false;
         }
     }

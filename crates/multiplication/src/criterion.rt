@@ -7,6 +7,7 @@ ghost use Rattle.multiplication.specs.Criterion.{Candidate, Acceptance};
 use crate::commute::commute;
 use crate::fill::fill;
 use lines::Shape;
+use residue::field::PrimeField;
 use staircase::irreducible::Irreducibles;
 
 // Whether the lines are a Groebner basis; the rows are left in the lent cells. The irreducible monomials stand in rising grevlex order.
@@ -23,6 +24,7 @@ pub fn is_groebner(
     ensures { (length cells.new ≡ most_cells)
         × Acceptance (basis_in shape counts.now coefficients.now exponents.now) irreducibles result (tables_of cells.new) }
 {
+    let field = PrimeField::new(shape.p);
     fill(
         &mut *cells,
         counts,
@@ -31,5 +33,5 @@ pub fn is_groebner(
         shape,
         irreducibles,
     );
-    shape.lines == shape.n || commute(&*cells, shape.n, irreducibles.count, shape.p)
+    shape.lines == shape.n || commute(&*cells, shape.n, irreducibles.count, field)
 }

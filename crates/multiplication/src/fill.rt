@@ -1,6 +1,6 @@
 // The rows of the products typeof.x_i.B_s, filled in rising grevlex order of these products, B the irreducible monomials.
 ghost use Rattle.std.specs.Prelude.{◌≡◌, true, ◌↔◌, ◌≤◌, ◌<◌, length, get_or};
-ghost use Rattle.residue.specs.Prime.{largest_modulus, Modulus};
+ghost use Rattle.residue.specs.Prime.{largest_modulus};
 ghost use Rattle.monomial.specs.Sizes.{most_variables};
 ghost use Rattle.monomial.specs.Rows.{exponent};
 ghost use Rattle.monomial.specs.Represented.{row};
@@ -26,6 +26,7 @@ use lines::store::line_at;
 use monomial::rank::{next_place, place_after, put_variable_ranks, rank, rank_place};
 use monomial::{Exponent, MAX_VARIABLES, Monomial};
 use residue::Residue;
+use residue::field::PrimeField;
 use staircase::irreducible::Irreducibles;
 use staircase::leads::Leads;
 use staircase::place::listed_at;
@@ -105,17 +106,17 @@ fn product_row(
     i: usize,
     place: usize,
     n: usize,
-    p: u16,
+    field: PrimeField,
 ) -> Coordinates
     requires { let l = irreducibles in
-        Modulus p × Cells p cells.now × RankedList n l ranks.now variables.now × ProductAt n l i place wanted × Through n l i place }
-    ensures { ProductRow p n irreducibles (tables_of cells.now) i place result }
+        Cells field.p cells.now × RankedList n l ranks.now variables.now × ProductAt n l i place wanted × Through n l i place }
+    ensures { ProductRow field.p n irreducibles (tables_of cells.now) i place result }
 {
     let m = listed_at(irreducibles, place);
     let j = variable_through(ranks, variables, irreducibles.count, m, wanted, n);
     let at = rank_place(ranks, irreducibles.count, ranks[place] - variables[j]);
     let row = row_at(cells, row_start(i, at));
-    times_variable(cells, j, row, irreducibles.count, p)
+    times_variable(cells, j, row, irreducibles.count, field)
 }
 
 // The row of typeof.x_i.B_s of rank w, which is no leading monomial: a unit row if it is listed, and otherwise a product.
@@ -128,11 +129,11 @@ fn row_for(
     i: usize,
     place: usize,
     n: usize,
-    p: u16,
+    field: PrimeField,
 ) -> Coordinates
-    requires { let l = irreducibles in Modulus p × Cells p cells.now × RankedList n l ranks.now variables.now × ProductAt n l i place wanted
+    requires { let l = irreducibles in Cells field.p cells.now × RankedList n l ranks.now variables.now × ProductAt n l i place wanted
         × (Unlisted n l i place → Through n l i place) }
-    ensures { MadeRow p n irreducibles (tables_of cells.now) i place result }
+    ensures { MadeRow field.p n irreducibles (tables_of cells.now) i place result }
 {
     let k = place_after(ranks, irreducibles.count, place + 1, wanted);
     if k < irreducibles.count {
@@ -147,7 +148,7 @@ fn row_for(
         i,
         place,
         n,
-        p,
+        field,
     )
 }
 
@@ -201,6 +202,7 @@ pub fn fill(
     put_variable_ranks(&mut variables, shape.n);
     let mut next: [u64; MAX_VARIABLES] = [0; MAX_VARIABLES];
     put_first_ranks(&mut next, &ranks, &variables, irreducibles.count, shape.n);
+    let field = PrimeField::new(shape.p);
     let mut i = next_place(&next, shape.n, 1);
     while i < shape.n {
         let s = c.at[i];
@@ -219,7 +221,7 @@ pub fn fill(
                 i,
                 s,
                 shape.n,
-                shape.p,
+                field,
             )
         };
         put_row(&mut *cells, row_start(i, s), row);

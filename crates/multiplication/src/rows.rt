@@ -1,6 +1,5 @@
 // The places of the rows of the products typeof.x_i.B_s, and what these rows make of coordinates in the irreducible monomials B.
 ghost use Rattle.std.specs.Prelude.{◌≡◌, ◌<◌, ◌≤◌};
-ghost use Rattle.residue.specs.Prime.{Modulus};
 ghost use Rattle.monomial.specs.Sizes.{most_variables};
 ghost use Rattle.lines.specs.Sizes.{most_standard};
 ghost use Rattle.coordinates.specs.Vectors.{Below};
@@ -11,7 +10,7 @@ use coordinates::rows::add_multiple;
 use coordinates::vectors::cut;
 use lines::sizes::MAX_STANDARD;
 use monomial::MAX_VARIABLES;
-use residue::word::word_over;
+use residue::field::PrimeField;
 
 // The coefficients of all rows: one row for each variable and each irreducible monomial. Coefficient k of the row of typeof.x_i.B_s stands at
 // place (i * MAX_STANDARD + s) * MAX_STANDARD + k of the lent cells.
@@ -31,17 +30,16 @@ pub fn times_variable(
     i: usize,
     vector: Coordinates,
     count: usize,
-    p: u16,
+    field: PrimeField,
 ) -> Coordinates
-    requires { Modulus p × Cells p cells.now × (i < most_variables) × (count ≤ most_standard) × Below p vector }
-    ensures { Multiplied p (tables_of cells.now) i vector count result }
+    requires { Cells field.p cells.now × (i < most_variables) × (count ≤ most_standard) × Below field.p vector }
+    ensures { Multiplied field.p (tables_of cells.now) i vector count result }
 {
-    let over = word_over(p);
     let mut sum = Coordinates::zero();
     for r in 0..count {
         let c = vector.c[r];
         if c.0 != 0 {
-            sum = add_multiple(sum, c.0, cells, row_start(i, r), over, p);
+            sum = add_multiple(sum, c.0, cells, row_start(i, r), field);
         }
     }
     cut(sum, count)

@@ -24,7 +24,7 @@ fill-requires c =
 pub commute-requires : goal.commute-requires
 commute-requires c =
     let given = c.requires.1.basis in
-    (given.sound.modulus, c.fill.ensures.stored, given.sound.variables.most, given.irreducibles.few)
+    (rw c.new-field.ensures c.fill.ensures.stored, given.sound.variables.most, given.irreducibles.few)
 
 -- The cells keep their number.
 kept : (c : After-fill) → length c.fill.new.cells ≡ length c.args.cells.now
@@ -45,4 +45,4 @@ shape_of-cells-else-shape c = kept (goal.at.shape_of-cells-else-shape c).After-f
 pub returns-else-shape : goal.returns-else-shape
 returns-else-shape c =
     let rows = c.fill.ensures in
-    (rows.stored.size, acceptance c.requires.1.basis rows _ (full (goal.at.returns-else-shape c).Start) c.commute.ensures)
+    (rows.stored.size, acceptance c.requires.1.basis rows _ (full (goal.at.returns-else-shape c).Start) (rw c.new-field.ensures at c.commute.ensures))

@@ -132,7 +132,7 @@ pub row_for-row-requires : goal.row_for-row-requires
 row_for-row-requires c =
     let inv = c.loop-i.invariant in
     let hi = c.loop-i-test.true in
-    (inv.known.given.sound.modulus, inv.filling.stored, inv.known.ranked, fill-product inv hi, fill-through inv hi c.rank_place-k.ensures c.if-k-leads.false)
+    (rw c.new-field.ensures inv.filling.stored, inv.known.ranked, fill-product inv hi, fill-through inv hi c.rank_place-k.ensures c.if-k-leads.false)
 
 -- The row that is stored.
 row : (c : Joined-k-leads) → RowFor (lent (goal.at.Joined-k-leads c).Start) c.args.irreducibles (tables_of c.loop-i.cells) c.loop-i.i (cursor c.loop-i.c c.loop-i.i) c.if-k-leads.row
@@ -145,7 +145,7 @@ row c =
           subst is (sym w.row-is)
           (fill-led inv hi c.rank_place-k.ensures w.if-k-leads.true
           (subst (λ g. TailRow c.args.shape.p c.args.shape.n g c.args.irreducibles w.tail_row-row.result) (line-is (goal.at.Joined-k-leads c).Start _ (omega (arith, fill-line inv hi c.rank_place-k.ensures w.if-k-leads.true, inv.known.given.sound.few)) _ w.line_at-g.ensures) w.tail_row-row.ensures))
-      | else-k-leads w ↦ subst is (sym w.row-is) (fill-made inv hi c.rank_place-k.ensures w.row_for-row.ensures)
+      | else-k-leads w ↦ subst is (sym w.row-is) (fill-made inv hi c.rank_place-k.ensures (rw c.new-field.ensures at w.row_for-row.ensures))
     ]
 
 pub put_row-requires : goal.put_row-requires

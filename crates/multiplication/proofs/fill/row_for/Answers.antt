@@ -18,15 +18,15 @@ use Rattle.multiplication.proofs.fill.row_for.Goals as goal
 place : (c : After-place_after-k) → let a = c.args in
     Place a.n (listed a.n a.irreducibles) a.irreducibles.count (product a.n (variable a.n a.i) (listed_at a.n a.irreducibles a.place)) c.place_after-k.result
 place c =
-    let (_, _, ranked, of, _) = c.requires in
+    let (_, ranked, of, _) = c.requires in
     rank-place _ ranked.ranks (of.rank, product-short ranked.listing c.args.place of.inside c.args.i of.within) c.place_after-k.ensures
 
 pub overflow_add-place : goal.overflow_add-place
-overflow_add-place c = let (_, _, ranked, of, _) = c.requires in omega (arith, of.inside, ranked.listing.few)
+overflow_add-place c = let (_, ranked, of, _) = c.requires in omega (arith, of.inside, ranked.listing.few)
 
 pub place_after-k-requires : goal.place_after-k-requires
 place_after-k-requires c =
-    let (_, _, ranked, of, _) = c.requires in
+    let (_, ranked, of, _) = c.requires in
     let at = c.args.place in
     let greater = product-greater ranked.listing at of.inside c.args.i of.within in
     let above : get_or c.args.ranks.now at 0 < c.args.wanted = omega (arith, greater, of.rank, ranked.ranks.rank at of.inside) in (
@@ -37,21 +37,20 @@ place_after-k-requires c =
     )
 
 pub unit-requires : goal.unit-requires
-unit-requires c = let (_, _, ranked, _, _) = c.requires in omega (arith, c.if-k-irreducibles.true, ranked.listing.few)
+unit-requires c = let (_, ranked, _, _) = c.requires in omega (arith, c.if-k-irreducibles.true, ranked.listing.few)
 
 pub returns-then-k-irreducibles : goal.returns-then-k-irreducibles
 returns-then-k-irreducibles c =
     let u = c.if-k-irreducibles.true in
-    let (modulus, _, _, _, _) = c.requires in
     record {
-      below = record { below = λ k. rw (c.unit.ensures k) (indicator-below _ _ _ modulus.prime.above_one) };
+      below = record { below = λ k. rw (c.unit.ensures k) (indicator-below _ _ _ c.args.field.prime.prime.above_one) };
       made = by_unit c.place_after-k.result u ((place (goal.at.returns-then-k-irreducibles c).After-place_after-k).found u) c.unit.ensures;
     }
 
 pub product_row-requires : goal.product_row-requires
 product_row-requires c =
-    let (modulus, cells, ranked, of, through) = c.requires in
-    (modulus, cells, ranked, of, through (λ k u. (place (goal.at.product_row-requires c).After-place_after-k).first k (omega (arith, c.if-k-irreducibles.false))))
+    let (cells, ranked, of, through) = c.requires in
+    (cells, ranked, of, through (λ k u. (place (goal.at.product_row-requires c).After-place_after-k).first k (omega (arith, c.if-k-irreducibles.false))))
 
 pub returns : goal.returns
 returns c = record { below = c.product_row.ensures.multiplied.below; made = by_product c.product_row.ensures }

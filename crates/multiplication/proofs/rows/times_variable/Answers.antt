@@ -8,33 +8,30 @@ use Rattle.multiplication.proofs.RowSums.{Summed, summed-start, summed-row, summ
 use Rattle.multiplication.proofs.rows.times_variable.Goals.{Start, then-c-ne0, else-c-ne0}
 use Rattle.multiplication.proofs.rows.times_variable.Goals as goal
 
-positive : (c : Start) → 0 < c.args.p
-positive c = omega (arith, c.requires.0.prime.above_one)
-
-pub word_over-over-requires : goal.word_over-over-requires
-word_over-over-requires c = positive (goal.at.word_over-over-requires c).Start
+positive : (c : Start) → 0 < c.args.field.p
+positive c = omega (arith, c.args.field.prime.prime.above_one)
 
 pub loop-r-init : goal.loop-r-init
 loop-r-init c = summed-start (positive (goal.at.loop-r-init c).Start) c.zero-sum.ensures
 
 pub add_multiple-sum-requires : goal.add_multiple-sum-requires
 add_multiple-sum-requires c =
-    let (modulus, cells, u, v, w) = c.requires in
+    let (cells, u, v, w) = c.requires in
     let below = table-row-below cells _ c.loop-r.r u (omega arith) in
-    (omega (arith, c.row_start.ensures, cells.size), modulus, c.word_over-over.ensures, w.below c.loop-r.r, c.loop-r.invariant.below, rw c.row_start.ensures below)
+    (omega (arith, c.row_start.ensures, cells.size), w.below c.loop-r.r, c.loop-r.invariant.below, rw c.row_start.ensures below)
 
 pub loop-r-preserved : goal.loop-r-preserved
 loop-r-preserved c =
     let a = c.args in
     let i = c.loop-r.invariant in
-    let at : Coordinates → Type 0 = λ x. Summed a.p (tables_of a.cells.now) a.i a.vector x (c.loop-r.r + 1) in
+    let at : Coordinates → Type 0 = λ x. Summed a.field.p (tables_of a.cells.now) a.i a.vector x (c.loop-r.r + 1) in
     elim c.if-c-ne0.branch [
       | then-c-ne0 w ↦ subst at (sym w.sum-is) (summed-row i (rw w.row_start.ensures at w.add_multiple-sum.ensures))
       | else-c-ne0 w ↦ subst at (sym w.sum-is) (summed-none i w.if-c-ne0.false)
     ]
 
 pub cut-requires : goal.cut-requires
-cut-requires c = let (_, _, _, d, _) = c.requires in d
+cut-requires c = let (_, _, d, _) = c.requires in d
 
 pub returns : goal.returns
 returns c =

@@ -4,4 +4,4 @@ use Rattle.multiplication.proofs.RowSums.{Summed}
 use Rattle.multiplication.proofs.rows.times_variable.Given as goal
 
 abbrev pub invariant-loop-r : goal.invariant-loop-r
-invariant-loop-r l = Summed l.p (tables_of l.cells) l.i l.vector l.sum l.r
+invariant-loop-r l = Summed l.field.p (tables_of l.cells) l.i l.vector l.sum l.r
