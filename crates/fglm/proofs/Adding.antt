@@ -39,10 +39,10 @@ use Rattle.fglm.proofs.RowSteps.{sound-residual}
 use Rattle.fglm.proofs.ListElimination.{less, scaled, cleared, inserted, chosen, eliminated, eliminated-first}
 
 -- The answer to a vector of the code.
-unfoldable pub answer : (t : Reciprocals) → Prime t.p → Rows → Coordinates → List (ZMod t.p) ⊎ State t.p
+unfoldable pub answer : (t : Reciprocals) → Prime t.field.p → Rows → Coordinates → List (ZMod t.field.p) ⊎ State t.field.p
 unfolding eliminated state_of vector table_inverse
 answer t prime s v = let h = prime.above_one in
-    eliminated t.p h (residue-field t.p prime) (nothing t.p) (table_inverse t h) (state_of t.p h s) s.used (vector t.p h v)
+    eliminated t.field.p h (residue-field t.field.p prime) (nothing t.field.p) (table_inverse t h) (state_of t.field.p h s) s.used (vector t.field.p h v)
 
 -- Two lists of rows that agree row by row.
 map-take : {A B : Type 0} (f : A → B) (g : B → B) (d : A) (n : ℕ) (l m : List A) → n ≤ length l → n ≤ length m
@@ -52,9 +52,9 @@ map-take f g d (suc n) [] m a b e = absurd (omega arith)
 map-take f g d (suc n) (x ∷ l) [] a b e = absurd (omega arith)
 map-take f g d (suc n) (x ∷ l) (y ∷ m) a b e = ap₂ ◌∷◌ (e 0 (omega arith)) (map-take f g d n l m (omega arith) (omega arith) (λ k h. e (suc k) (omega arith)))
 
-module _ (t : Reciprocals) {s : Rows} {v : Coordinates} {x : Residual} (left : LeftOf t.p s v x) where
+module _ (t : Reciprocals) {s : Rows} {v : Coordinates} {x : Residual} (left : LeftOf t.field.p s v x) where
   abbrev p : ℕ
-  p = t.p
+  p = t.field.p
 
   pub answer-left : (prime : Prime p) (o : Found) → FirstPlace x.row o
       → answer t prime s v ≡ chosen p prime.above_one (table_inverse t prime.above_one) (state_of p prime.above_one s) (residual_of p prime.above_one x) (first_place o)
@@ -81,7 +81,7 @@ module _ (t : Reciprocals) {s : Rows} {v : Coordinates} {x : Residual} (left : L
       unfolding table_inverse
       scaled-is h = (λ i. record { row = record { vector = made.row.residues h i; combination = made.combination.residues h i }; pivot = made.pivot i })
           ∙ ap (λ c. scaled p h c (residual_of p h x) k)
-          (ap (λ n. residue p h (entry t n)) (sym (ap (λ (z : ZMod p). z.0) (vector-entry p h x.row k) ∙ residue-below p h _ (left.sound.row_below.below k))))
+          (ap (λ n. residue p h (entry t.table n)) (sym (ap (λ (z : ZMod p). z.0) (vector-entry p h x.row k) ∙ residue-below p h _ (left.sound.row_below.below k))))
 
       module _ {s' : Rows} (clears : ClearedRows p q s s') (size : length s.rows ≡ most_standard) (sound : SoundRows p s) (room : s.used < most_standard) where
         abbrev grown_rows : Rows

@@ -5,9 +5,8 @@
 use Prim.Native.Nat.{ℕ, ◌<◌}
 use mathlib.Core.Path.{◌≡◌, sym, subst}
 use mathlib.Core.List.{List}
-use Rattle.residue.specs.Prime.{Prime, Modulus}
+use Rattle.residue.specs.Prime.{Prime}
 use Rattle.residue.specs.Field.{ZMod, modulo}
-use Rattle.residue.specs.Reciprocals.{Serves}
 use Rattle.residue.specs.declared.reciprocals.Reciprocals.{Reciprocals}
 use Rattle.monomial.specs.Sizes.{VariableCount}
 use Rattle.monomial.specs.Rows.{Row, one}
@@ -29,11 +28,11 @@ use Rattle.fglm.specs.Found.{found_lines, found_standard, Printable}
 use Rattle.fglm.specs.Enumerable.{Enumerable, EnumerationInput, Enumerated}
 use Rattle.fglm.specs.Lex.{LexBasis}
 
-module _ (b : StoredBasis) (t : Reciprocals) (same : t.p ≡ b.p) (s : List ℕ) (l : Irreducibles) (tables : Tables) where
+module _ (b : StoredBasis) (t : Reciprocals) (same : t.field.p ≡ b.p) (s : List ℕ) (l : Irreducibles) (tables : Tables) where
   abbrev n : ℕ
   n = b.n
 
-  module _ (modulus : Modulus b.p) (sizes : VariableCount n) (irreducibles : ListsIrreducibles b l) (serves : Serves t) (ranking : RanksOnce n s)
+  module _ (sizes : VariableCount n) (irreducibles : ListsIrreducibles b l) (ranking : RanksOnce n s)
       (below : AllBelow b.p tables) (low : (h : 1 < b.p) → Low (Grevlex n) (read.stored_lines b h))
       (clear : (h : 1 < b.p) → Clear (modulo b.p h) (monomials n) (read.stored_lines b h)) (groebner : (h : 1 < b.p) → Groebner (modulo b.p h) (monomials n) (Grevlex n) (read.stored_lines b h))
       (filled : (h : 1 < b.p) (i : ℕ) → i < n → (k : ℕ) → k < l.count → Filled (modulo b.p h) n (read.stored_lines b h) (listed n l) (one n) (cell_of b.p h tables) i k) where
@@ -48,8 +47,6 @@ module _ (b : StoredBasis) (t : Reciprocals) (same : t.p ≡ b.p) (s : List ℕ)
 
     pub convertible : EnumerationInput t n s l tables
     convertible = record {
-      modulus = subst Modulus (sym same) modulus;
-      serves = serves;
       variables = sizes;
       ranking = ranking;
       few = irreducibles.few;

@@ -88,26 +88,26 @@ module _ (t : Reciprocals) (n : ℕ) (s : List ℕ) (l : Irreducibles) (tables :
   pub record Enumerating (ts cs es : List ℕ) (rs : Rows) (images ranks : List ℕ) (standard : Irreducibles) (ls : Leads) (found : Bool) (m : Monomial) : Type 0 where
     pub given : EnumerationInput t n s l tables
     pub size : length (listed n l) ≡ l.count
-    pub kept : Kept t.p n ts cs es rs images ranks standard ls
+    pub kept : Kept t.field.p n ts cs es rs images ranks standard ls
     pub held : Padded n m
     pub stage : (𝓢 : Setting t n s l tables)
-        → (H : List (Line (ZMod t.p) (Row n))) × Progressed 𝓢 rs images standard ls (lines_in ts cs es) H
+        → (H : List (Line (ZMod t.field.p) (Row n))) × Progressed 𝓢 rs images standard ls (lines_in ts cs es) H
         × Stage 𝓢 H (listed n standard) found (row n m)
 
   -- m is visited, after as many others as are counted.
   pub record VisitedOnce (before : ℕ) (ts cs es : List ℕ) (rs : Rows) (images ranks : List ℕ) (standard : Irreducibles) (ls : Leads) (m : Monomial) : Type 0 where
     pub given : EnumerationInput t n s l tables
     pub size : length (listed n l) ≡ l.count
-    pub kept : Kept t.p n ts cs es rs images ranks standard ls
+    pub kept : Kept t.field.p n ts cs es rs images ranks standard ls
     pub count : ls.count + standard.count ≡ suc before
     pub seen : (𝓢 : Setting t n s l tables)
-        → (H : List (Line (ZMod t.p) (Row n))) × Progressed 𝓢 rs images standard ls (lines_in ts cs es) H
-        × Seen n (sequences (residue-field t.p 𝓢.prime).ring) (L 𝓢) (Lex n s) (UpTo (Lex n s) (row n m)) H (listed n standard)
+        → (H : List (Line (ZMod t.field.p) (Row n))) × Progressed 𝓢 rs images standard ls (lines_in ts cs es) H
+        × Seen n (sequences (residue-field t.field.p 𝓢.prime).ring) (L 𝓢) (Lex n s) (UpTo (Lex n s) (row n m)) H (listed n standard)
 
 module _ {t : Reciprocals} {n : ℕ} {s : List ℕ} {l : Irreducibles} {tables : Tables} where
   module _ (given : EnumerationInput t n s l tables) (size : length (listed n l) ≡ l.count) where
-    setting : (prime : Prime t.p) (G : List (Line (ZMod t.p) (Row n))) → Enumerable t.p prime n l tables G → Setting t n s l tables
-    setting prime G en = record { serves = given.serves; prime = prime; ranking = given.ranking; lines = G; enumerable = en; size = size }
+    setting : (prime : Prime t.field.p) (G : List (Line (ZMod t.field.p) (Row n))) → Enumerable t.field.p prime n l tables G → Setting t n s l tables
+    setting prime G en = record { prime = prime; ranking = given.ranking; lines = G; enumerable = en; size = size }
 
     pub enumerating-start : {ts cs es : List ℕ} {rs : Rows} {images ranks : List ℕ} {standard : Irreducibles} {ls : Leads} {m : Monomial}
         → Arrays ts cs es → rs.used ≡ 0 → standard.count ≡ 0 → ls.count ≡ 0
@@ -121,8 +121,8 @@ module _ {t : Reciprocals} {n : ℕ} {s : List ℕ} {l : Irreducibles} {tables :
         arrays = a;
         lines = omega arith;
         leads_size = k;
-        printable = subst (λ d. Each (PrintableLine t.p n) (take d (lines_in ts cs es))) (sym g) tt;
-        sound = sound_none t.p rs e;
+        printable = subst (λ d. Each (PrintableLine t.field.p n) (take d (lines_in ts cs es))) (sym g) tt;
+        sound = sound_none t.field.p rs e;
         rows_size = r;
         used = e ∙ sym f;
         images_size = i;
@@ -143,7 +143,7 @@ module _ {t : Reciprocals} {n : ℕ} {s : List ℕ} {l : Irreducibles} {tables :
     module _ (e : Enumerating t n s l tables ts cs es rs images ranks standard ls true m) where
       -- The lines that are given, and their prime.
       first : Setting t n s l tables
-      first = let prime = e.given.modulus.prime in let (G, en) = e.given.lines prime in setting e.given e.size prime G en
+      first = let prime = t.field.prime.prime in let (G, en) = e.given.lines prime in setting e.given e.size prime G en
 
       pub next-found : DivisorsFound n standard (row n m)
       next-found = let (H, q, v) = e.stage first in
@@ -161,19 +161,19 @@ module _ {t : Reciprocals} {n : ℕ} {s : List ℕ} {l : Irreducibles} {tables :
       next-lines = let (H, q, v) = e.stage first in
           omega (arith, visit-lines first q v e.given.variables.some (standard-fits e), e.given.variables.most)
 
-      module _ {w : Coordinates} (whole : FullLength w) (i : ImageRow t.p n m images standard tables l w) where
-        module _ {x : Residual} (left : LeftOf t.p rs w x) where
+      module _ {w : Coordinates} (whole : FullLength w) (i : ImageRow t.field.p n m images standard tables l w) where
+        module _ {x : Residual} (left : LeftOf t.field.p rs w x) where
           module _ {k : ℕ} (pivot : FirstPlace x.row (Pivot k)) where
             pub rows-room : rs.used < most_standard
             unfolding first setting
-            rows-room = let prime = e.given.modulus.prime in let (H, q, v) = e.stage first in
-                enough-room t e.given.serves prime (L first) rs (listed n standard) q.echelon q.used (row n m) w
+            rows-room = let prime = t.field.prime.prime in let (H, q, v) = e.stage first in
+                enough-room t prime (L first) rs (listed n standard) q.echelon q.used (row n m) w
                 (visit-image first q whole i).1 _ (answer-left t left prime (Pivot k) pivot)
 
             standard-room : standard.count < most_standard
             standard-room = omega (arith, rows-room, e.kept.used)
 
-            pub after-standard : {q : Reduced} → Scaled t x k q → {rs' : Rows} → Inserted t.p q rs rs'
+            pub after-standard : {q : Reduced} → Scaled t x k q → {rs' : Rows} → Inserted t.field.p q rs rs'
                 → {images' : List ℕ} → RowPut images (standard.count * most_standard) w images' → {u : ℕ} → (u ≡ rank_of n (row n m)) × Short n (row n m)
                 → {standard' : Irreducibles} → Pushed standard m standard'
                 → VisitedOnce t n s l tables (ls.count + standard.count) ts cs es rs' images' (set ranks standard.count u) standard' ls m
@@ -190,8 +190,8 @@ module _ {t : Reciprocals} {n : ℕ} {s : List ℕ} {l : Irreducibles} {tables :
                     ∙ e.kept.rows_size;
                 used = omega (arith, used, more.count, e.kept.used);
                 images_size = stored.size ∙ e.kept.images_size;
-                images_below = λ j u. by_cases (dec_lt j standard.count) (λ v. subst (Below t.p) (sym (before j v)) (e.kept.images_below j v))
-                    (λ v. let f : j ≡ standard.count = omega (arith, more.count) in subst (Below t.p) (sym (ap (image_at images') f ∙ stored.own)) i.below);
+                images_below = λ j u. by_cases (dec_lt j standard.count) (λ v. subst (Below t.field.p) (sym (before j v)) (e.kept.images_below j v))
+                    (λ v. let f : j ≡ standard.count = omega (arith, more.count) in subst (Below t.field.p) (sym (ap (image_at images') f ∙ stored.own)) i.below);
                 ranked = ranked-more e.kept.ranked room e.kept.standard_size rank more;
                 standard_size = pushed-size more ∙ e.kept.standard_size;
                 standard_held = subst (Each (Padded n)) (sym (pushed-taken more room)) (each_last (Padded n) (take standard.count standard.monomials) e.kept.standard_held e.held);
@@ -213,7 +213,7 @@ module _ {t : Reciprocals} {n : ℕ} {s : List ℕ} {l : Irreducibles} {tables :
                 before : (j : ℕ) → j < standard.count → image_at images' j ≡ image_at images j
                 before j u = put-kept stored (omega (arith, standard-room, e.kept.images_size)) (j * most_standard) (omega arith)
 
-          pub after_line : FirstPlace x.row Dependent → {c : Coordinates} → Dependence t.p x c → {g : Generator} → WrittenLine t.p n m c standard g
+          pub after_line : FirstPlace x.row Dependent → {c : Coordinates} → Dependence t.field.p x c → {g : Generator} → WrittenLine t.field.p n m c standard g
               → {ts' cs' es' : List ℕ} → Hold (set (lines_in ts cs es) ls.count g) ts' cs' es'
               → {ls' : Leads} → (ls'.count ≡ suc ls.count) × (ls'.monomials ≡ set ls.monomials ls.count m)
               → VisitedOnce t n s l tables (ls.count + standard.count) ts' cs' es' rs images ranks standard ls' m
@@ -224,7 +224,7 @@ module _ {t : Reciprocals} {n : ℕ} {s : List ℕ} {l : Irreducibles} {tables :
               arrays = stored.arrays;
               lines = omega (arith, next-lines);
               leads_size = ap length leads ∙ length-set ls.monomials ls.count m ∙ e.kept.leads_size;
-              printable = subst (Each (PrintableLine t.p n)) (sym taken) (each_last (PrintableLine t.p n) (take ls.count (lines_in ts cs es)) e.kept.printable written.printable);
+              printable = subst (Each (PrintableLine t.field.p n)) (sym taken) (each_last (PrintableLine t.field.p n) (take ls.count (lines_in ts cs es)) e.kept.printable written.printable);
               sound = e.kept.sound;
               rows_size = e.kept.rows_size;
               used = e.kept.used;

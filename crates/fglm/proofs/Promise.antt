@@ -14,7 +14,6 @@ use Rattle.lists.specs.Lists.{◌∈◌}
 use Rattle.residue.specs.Prime.{Prime}
 use Rattle.residue.specs.Field.{ZMod, modulo}
 use Rattle.residue.specs.RingLaws.{Field}
-use Rattle.residue.specs.Reciprocals.{Serves}
 use Rattle.residue.specs.declared.reciprocals.Reciprocals.{Reciprocals}
 use Rattle.residue.proofs.ResidueField.{residue-field}
 use Rattle.groebner.specs.CoefficientRows.{polynomial_of}
@@ -77,11 +76,11 @@ module _ (p : ℕ) (h : 1 < p) (field : Field (modulo p h)) {M : Type 0} (L : M 
       told-answers (inr ss) w = w
 
 -- The image of m is added to the rows of B.
-module _ (t : Reciprocals) (serves : Serves t) (prime : Prime t.p) {M : Type 0} (L : M → ℕ → ZMod t.p) (s : Rows) (B : List M)
-    (holds : EchelonOf t.p prime.above_one (residue-field t.p prime) L (state_of t.p prime.above_one s) B) (count : s.used ≡ length B)
-    (m : M) (v : Coordinates) (image : Image t.p prime.above_one L v m) where
+module _ (t : Reciprocals) (prime : Prime t.field.p) {M : Type 0} (L : M → ℕ → ZMod t.field.p) (s : Rows) (B : List M)
+    (holds : EchelonOf t.field.p prime.above_one (residue-field t.field.p prime) L (state_of t.field.p prime.above_one s) B) (count : s.used ≡ length B)
+    (m : M) (v : Coordinates) (image : Image t.field.p prime.above_one L v m) where
   abbrev p : ℕ
-  p = t.p
+  p = t.field.p
 
   abbrev h : 1 < p
   h = prime.above_one
@@ -99,7 +98,7 @@ module _ (t : Reciprocals) (serves : Serves t) (prime : Prime t.p) {M : Type 0} 
       ∙ ap (λ k. eliminated p h field L (table_inverse t h) (state_of p h s) k (vector p h v)) count
 
   pub answers : (o : List (ZMod p) ⊎ State p) → answer t prime s v ≡ o → Answers p h field L B m o
-  answers o e = eliminated-answers p h field L (table_inverse t h) (inverse-law t h serves) (state_of p h s) B holds m (vector p h v)
+  answers o e = eliminated-answers p h field L (table_inverse t h) (inverse-law t h) (state_of p h s) B holds m (vector p h v)
       image.entries (omega (arith, image.size, length-vector p h v)) o (sym answer-same ∙ e)
 
   pub enough-room : (rs : State p) → answer t prime s v ≡ inr rs → s.used < most_standard

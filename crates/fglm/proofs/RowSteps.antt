@@ -40,11 +40,11 @@ cleared_by {p} {q} {r} {y} e l = record {
 pub cleared-none : {p : ℕ} {q r : Reduced} → 1 < p → SoundRow p q → SoundRow p r → coordinate r.row q.pivot ≡ 0 → ClearedRow p q r r
 cleared-none h u s e = cleared_by refl (less_none h s.vectors u e)
 
-pub scaled-by : {t : Reciprocals} {x : Residual} {k : ℕ} {a b : Coordinates} {c : ℕ} → c ≡ entry t (coordinate x.row k)
-    → Represents t.p a (multiplied t.p c x.row) → Represents t.p b (multiplied t.p c x.combination)
+pub scaled-by : {t : Reciprocals} {x : Residual} {k : ℕ} {a b : Coordinates} {c : ℕ} → c ≡ entry t.table (coordinate x.row k)
+    → Represents t.field.p a (multiplied t.field.p c x.row) → Represents t.field.p b (multiplied t.field.p c x.combination)
     → Scaled t x k (record { pivot = k; row = a; combination = b })
 scaled-by {t} {x} {k} {a} {b} e l m = record {
   pivot = refl;
-  row = subst (λ y. Represents t.p a (multiplied t.p y x.row)) e l;
-  combination = subst (λ y. Represents t.p b (multiplied t.p y x.combination)) e m;
+  row = subst (λ y. Represents t.field.p a (multiplied t.field.p y x.row)) e l;
+  combination = subst (λ y. Represents t.field.p b (multiplied t.field.p y x.combination)) e m;
 }

@@ -25,7 +25,6 @@ use lib.Seq.{take-suc-set}
 use Rattle.residue.specs.Prime.{Prime}
 use Rattle.residue.specs.Field.{ZMod, modulo}
 use Rattle.residue.specs.RingLaws.{Field}
-use Rattle.residue.specs.Reciprocals.{Serves}
 use Rattle.residue.specs.declared.reciprocals.Reciprocals.{Reciprocals}
 use Rattle.residue.proofs.ResidueField.{residue-field}
 use Rattle.monomial.specs.Rows.{Row, one, exponent, product}
@@ -85,18 +84,17 @@ use Rattle.fglm.proofs.WrittenMore.{written-append, written-more, multiple-reduc
 
 -- Where the visits take place.
 pub record Setting (t : Reciprocals) (n : ℕ) (s : List ℕ) (l : Irreducibles) (tables : Tables) : Type 0 where
-  pub serves : Serves t
-  pub prime : Prime t.p
+  pub prime : Prime t.field.p
   pub ranking : RanksOnce n s
-  pub lines : List (Line (ZMod t.p) (Row n))
-  pub enumerable : Enumerable t.p prime n l tables lines
+  pub lines : List (Line (ZMod t.field.p) (Row n))
+  pub enumerable : Enumerable t.field.p prime n l tables lines
   pub size : length (listed n l) ≡ l.count
 
 module _ {t : Reciprocals} {n : ℕ} {s : List ℕ} {l : Irreducibles} {tables : Tables} (𝓢 : Setting t n s l tables) where
-  open 𝓢 use {serves, prime, ranking, size, lines as G, enumerable as en}
+  open 𝓢 use {prime, ranking, size, lines as G, enumerable as en}
 
   abbrev p : ℕ
-  p = t.p
+  p = t.field.p
 
   abbrev h : 1 < p
   h = prime.above_one
@@ -199,7 +197,7 @@ module _ {t : Reciprocals} {n : ℕ} {s : List ℕ} {l : Irreducibles} {tables :
       )
         where
           told : Answers p h field L B (row n m) (inl (vectors.vector p h c))
-          told = answers t serves prime L rs B q.echelon q.used (row n m) w image _ answered
+          told = answers t prime L rs B q.echelon q.used (row n m) w image _ answered
 
           new : Line F (Row n)
           new = (row n m, negate (modulo p h) (polynomial_of B (vectors.vector p h c)))
@@ -227,7 +225,7 @@ module _ {t : Reciprocals} {n : ℕ} {s : List ℕ} {l : Irreducibles} {tables :
       )
         where
           told : Answers p h field L B (row n m) (inr (state_of p h rs'))
-          told = answers t serves prime L rs B q.echelon q.used (row n m) w image _ answered
+          told = answers t prime L rs B q.echelon q.used (row n m) w image _ answered
 
           more : listed n standard' ≡ B ++ (row n m ∷ [])
           more = pushed-listed pushed room n

@@ -1,12 +1,11 @@
 -- Inner contracts. What the enumeration asks of the lines that it converts.
 --   Enumerable p prime n l t G        the lines G are a Groebner basis in grevlex with the irreducible monomials l, and t has the rows of their products with variables
---   EnumerationInput t n s l tables   what the enumeration asks: such lines, the reciprocals t modulo p, and a ranking s of n variables
+--   EnumerationInput t n s l tables   what the enumeration asks: such lines over the field of t, and a ranking s of n variables
 --   Enumerated t n s l tables r       what it gives: the lex basis over s, and its standard monomials
 --   Pushed l m r                      r is the list l with one monomial more
 use Rattle.std.specs.Prelude.{ℕ, suc, ◌≤◌, ◌<◌, ◌≡◌, List, set}
-use Rattle.residue.specs.Prime.{Prime, Modulus}
+use Rattle.residue.specs.Prime.{Prime}
 use Rattle.residue.specs.Field.{ZMod, modulo}
-use Rattle.residue.specs.Reciprocals.{Serves}
 use Rattle.residue.specs.declared.reciprocals.Reciprocals.{Reciprocals}
 use Rattle.monomial.specs.Sizes.{VariableCount}
 use Rattle.monomial.specs.Rows.{Row, one}
@@ -36,19 +35,17 @@ pub record Enumerable (p : ℕ) (prime : Prime p) (n : ℕ) (l : Irreducibles) (
 
 -- What the enumeration asks.
 pub record EnumerationInput (t : Reciprocals) (n : ℕ) (s : List ℕ) (l : Irreducibles) (tables : Tables) : Type 0 where
-  pub modulus : Modulus t.p
-  pub serves : Serves t
   pub variables : VariableCount n
   pub ranking : RanksOnce n s
   pub few : l.count ≤ most_standard
-  pub below : AllBelow t.p tables
-  pub lines : (prime : Prime t.p) → (G : List (Line (ZMod t.p) (Row n))) × Enumerable t.p prime n l tables G
+  pub below : AllBelow t.field.p tables
+  pub lines : (prime : Prime t.field.p) → (G : List (Line (ZMod t.field.p) (Row n))) × Enumerable t.field.p prime n l tables G
 
 -- What the enumeration gives, whatever such lines there are: the outcome of the theory, in the arrays of r.
 pub record Enumerated (t : Reciprocals) (n : ℕ) (s : List ℕ) (l : Irreducibles) (tables : Tables) (r : LexBasis) : Type 0 where
-  pub printable : Printable t.p n r
-  pub outcome : (prime : Prime t.p) (G : List (Line (ZMod t.p) (Row n))) → Enumerable t.p prime n l tables G
-      → Enumerates (modulo t.p prime.above_one) n (Grevlex n) (Lex n s) G l.count (found_lines t.p prime.above_one n r) (found_standard n r)
+  pub printable : Printable t.field.p n r
+  pub outcome : (prime : Prime t.field.p) (G : List (Line (ZMod t.field.p) (Row n))) → Enumerable t.field.p prime n l tables G
+      → Enumerates (modulo t.field.p prime.above_one) n (Grevlex n) (Lex n s) G l.count (found_lines t.field.p prime.above_one n r) (found_standard n r)
 
 -- r is the list l with one monomial more.
 pub record Pushed (l : Irreducibles) (m : Monomial) (r : Irreducibles) : Type 0 where

@@ -8,7 +8,6 @@
 --   ImageRow              so it is, its entries are below p, and zero past those of the list l
 use Rattle.std.specs.Prelude.{◌≡◌, List, ℕ, ◌*◌, ◌≤◌, ◌<◌, length}
 use Rattle.lists.specs.Lists.{◌∈◌}
-use Rattle.residue.specs.Prime.{Modulus}
 use Rattle.residue.specs.Field.{modulo}
 use Rattle.monomial.specs.Sizes.{most_variables}
 use Rattle.monomial.specs.Rows.{Row, one, product}
@@ -46,7 +45,6 @@ DivisorsFound n l m = (i : ℕ) → i < n → (b : Row n) → m ≡ product n (v
 
 -- What the row of m asks: arrays of their lengths with entries below p, the ranks of the standard monomials, and m over any of its variables among these.
 pub record ImageInput (p n : ℕ) (m : Monomial) (cells images ranks : List ℕ) (standard l : Irreducibles) : Type 0 where
-  pub modulus : Modulus p
   pub variables : n ≤ most_variables
   pub few : l.count ≤ most_standard
   pub cells_size : length cells ≡ most_cells

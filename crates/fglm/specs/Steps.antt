@@ -28,8 +28,8 @@ Dependence p x c = Represents p c (multiplied p (negation_mod p 1) x.combination
 -- q is x times the reciprocal of its entry at place k, with the pivot k.
 pub record Scaled (t : Reciprocals) (x : Residual) (k : ℕ) (q : Reduced) : Type 0 where
   pub pivot : q.pivot ≡ k
-  pub row : Represents t.p q.row (multiplied t.p (entry t (coordinate x.row k)) x.row)
-  pub combination : Represents t.p q.combination (multiplied t.p (entry t (coordinate x.row k)) x.combination)
+  pub row : Represents t.field.p q.row (multiplied t.field.p (entry t.table (coordinate x.row k)) x.row)
+  pub combination : Represents t.field.p q.combination (multiplied t.field.p (entry t.table (coordinate x.row k)) x.combination)
 
 -- r' is the row r less the multiple of q that makes it zero at q's pivot.
 pub record ClearedRow (p : ℕ) (q r r' : Reduced) : Type 0 where

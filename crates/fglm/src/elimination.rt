@@ -1,7 +1,5 @@
 // Row elimination (document 01, "The walk"): rows in reduced echelon form, each with the combination of the added vectors that it is.
 ghost use Rattle.std.specs.Prelude.{◌≡◌, ◌<◌};
-ghost use Rattle.residue.specs.Prime.{Modulus};
-ghost use Rattle.residue.specs.Reciprocals.{Serves};
 ghost use Rattle.lines.specs.Sizes.{most_standard};
 ghost use Rattle.coordinates.specs.Vectors.{coordinate, Below, FirstPlace};
 ghost use Rattle.fglm.specs.RowState.{SoundResidual, SoundRow, SoundRows};
@@ -12,6 +10,7 @@ use coordinates::Coordinates;
 use coordinates::vectors::{Found, first_nonzero, multiply, subtract_multiple, unit};
 use lines::sizes::MAX_STANDARD;
 use residue::Residue;
+use residue::field::PrimeField;
 use residue::reciprocals::Reciprocals;
 
 // A vector that is 1 at its pivot, and the combination of the added vectors that it is.
@@ -45,53 +44,53 @@ impl Residual {
     }
 
     // If nothing is left, the combination of the vectors added before that the vector is.
-    pub fn dependence(self, p: u16) -> Coordinates
-        requires { Modulus p × SoundResidual p self }
-        ensures { Dependence p self result }
+    pub fn dependence(self, field: PrimeField) -> Coordinates
+        requires { SoundResidual field.p self }
+        ensures { Dependence field.p self result }
     {
-        let minus_one = Residue::ONE.neg(p);
-        multiply(minus_one, self.combination, p)
+        let minus_one = Residue::ONE.neg(field.p);
+        multiply(minus_one, self.combination, field)
     }
 
     // Less c times a row.
-    fn less(self, c: Residue, r: Reduced, p: u16) -> Residual
-        requires { Modulus p × SoundResidual p self × (c.0 < p) × SoundRow p r }
-        ensures { LessRow p self c.0 r result }
+    fn less(self, c: Residue, r: Reduced, field: PrimeField) -> Residual
+        requires { SoundResidual field.p self × (c.0 < field.p) × SoundRow field.p r }
+        ensures { LessRow field.p self c.0 r result }
     {
         let row = r.row;
         let combination = r.combination;
         Residual {
-            row: subtract_multiple(self.row, c, row, p),
-            combination: subtract_multiple(self.combination, c, combination, p),
+            row: subtract_multiple(self.row, c, row, field),
+            combination: subtract_multiple(self.combination, c, combination, field),
         }
     }
 
     // Times the reciprocal of the entry at place k: a row with the pivot k.
     pub fn scaled(self, k: usize, reciprocals: Reciprocals) -> Reduced
-        requires { Modulus reciprocals.p × Serves reciprocals × SoundResidual reciprocals.p self × (k < most_standard) × ¬ (coordinate self.row k ≡ 0) }
+        requires { SoundResidual reciprocals.field.p self × (k < most_standard) × ¬ (coordinate self.row k ≡ 0) }
         ensures { Scaled reciprocals self k result }
     {
         let row = self.row;
         let c = reciprocals.of(row.c[k]);
         Reduced {
             pivot: k,
-            row: multiply(c, row, reciprocals.p),
-            combination: multiply(c, self.combination, reciprocals.p),
+            row: multiply(c, row, reciprocals.field),
+            combination: multiply(c, self.combination, reciprocals.field),
         }
     }
 }
 
 impl Reduced {
     // Less the multiple of q that makes it zero at q's pivot.
-    fn cleared(self, q: Reduced, p: u16) -> Reduced
-        requires { Modulus p × SoundRow p self × SoundRow p q }
-        ensures { ClearedRow p q self result }
+    fn cleared(self, q: Reduced, field: PrimeField) -> Reduced
+        requires { SoundRow field.p self × SoundRow field.p q }
+        ensures { ClearedRow field.p q self result }
     {
         let row = self.row;
         let combination = self.combination;
         let at = q.pivot;
         let x = Residual { row, combination };
-        let y = x.less(row.c[at], q, p);
+        let y = x.less(row.c[at], q, field);
         let row = y.row;
         let combination = y.combination;
         Reduced {
@@ -120,9 +119,9 @@ impl Rows {
     }
 
     // Each row less the multiple of q that makes it zero at q's pivot, and then q. A row that is zero there stays as it is.
-    pub fn insert(mut self, q: Reduced, p: u16) -> Rows
-        requires { Modulus p × SoundRows p self × SoundRow p q × (self.used < most_standard) }
-        ensures { Inserted p q self result }
+    pub fn insert(mut self, q: Reduced, field: PrimeField) -> Rows
+        requires { SoundRows field.p self × SoundRow field.p q × (self.used < most_standard) }
+        ensures { Inserted field.p q self result }
     {
         let at = self.used;
         let k = q.pivot;
@@ -130,7 +129,7 @@ impl Rows {
             let r = self.rows[i];
             let c = r.row.c[k];
             if c.0 != 0 {
-                self.rows[i] = r.cleared(q, p);
+                self.rows[i] = r.cleared(q, field);
             }
         }
         self.rows[at] = q;
@@ -139,18 +138,18 @@ impl Rows {
     }
 
     // v less each row times v's entry at its pivot; a row with the entry 0 is passed over.
-    pub fn residual(self, v: Coordinates, p: u16) -> Residual
-        requires { Modulus p × SoundRows p self × Below p v }
-        ensures { LeftOf p self v result }
+    pub fn residual(self, v: Coordinates, field: PrimeField) -> Residual
+        requires { SoundRows field.p self × Below field.p v }
+        ensures { LeftOf field.p self v result }
     {
         let mut x = Residual {
             row: v,
-            combination: unit(self.used, p),
+            combination: unit(self.used, field.p),
         };
         for r in &self.rows[..self.used] {
             let c = v.c[r.pivot];
             if c.0 != 0 {
-                x = x.less(c, *r, p);
+                x = x.less(c, *r, field);
             }
         }
         x

@@ -62,6 +62,7 @@ pub fn enumerate(
     ensures { StoredLex result counts.new coefficients.new exponents.new
         (Enumerated reciprocals n (take n ranking.variables) irreducibles (tables_of cells.now)) }
 {
+    let field = reciprocals.field;
     let mut rows = Rows::none();
     let mut images: [u16; MAX_IMAGES] = [0; MAX_IMAGES];
     let mut ranks: [u64; MAX_STANDARD] = [0; MAX_STANDARD];
@@ -73,19 +74,10 @@ pub fn enumerate(
     };
     while m.found {
         let v = m.monomial;
-        let w = image_of(
-            cells,
-            &images,
-            &ranks,
-            v,
-            standard,
-            irreducibles,
-            reciprocals.p,
-            n,
-        );
-        let x = rows.residual(w, reciprocals.p);
+        let w = image_of(cells, &images, &ranks, v, standard, irreducibles, field, n);
+        let x = rows.residual(w, field);
         let Found::Pivot(pivot) = x.found() else {
-            let g = line_of(v, x.dependence(reciprocals.p), standard, reciprocals.p, n);
+            let g = line_of(v, x.dependence(field), standard, field.p, n);
             put_line(
                 &mut *counts,
                 &mut *coefficients,
@@ -97,7 +89,7 @@ pub fn enumerate(
             m = next(leads, v, ranking, n);
             continue;
         };
-        rows = rows.insert(x.scaled(pivot, reciprocals), reciprocals.p);
+        rows = rows.insert(x.scaled(pivot, reciprocals), field);
         let k = standard.count;
         put_row(&mut images, k * MAX_STANDARD, w);
         ranks[k] = rank(v, n);

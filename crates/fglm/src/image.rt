@@ -12,6 +12,7 @@ use monomial::Monomial;
 use monomial::rank::{rank, rank_place};
 use monomial::variable::{first_variable, over_variable};
 use multiplication::rows::times_variable;
+use residue::field::PrimeField;
 use staircase::irreducible::Irreducibles;
 use staircase::place::place_of;
 
@@ -39,11 +40,11 @@ pub fn image_of(
     m: Monomial,
     standard: Irreducibles,
     irreducibles: Irreducibles,
-    p: u16,
+    field: PrimeField,
     n: usize,
 ) -> Coordinates
-    requires { ImageInput p n m cells.now images.now ranks.now standard irreducibles }
-    ensures { ImageRow p n m images.now standard (tables_of cells.now) irreducibles result }
+    requires { ImageInput field.p n m cells.now images.now ranks.now standard irreducibles }
+    ensures { ImageRow field.p n m images.now standard (tables_of cells.now) irreducibles result }
 {
     let i = first_variable(m, n);
     if n <= i {
@@ -52,5 +53,5 @@ pub fn image_of(
     let b = over_variable(m, i, n);
     let s = rank_place(ranks, standard.count, rank(b, n));
     let w = row_at(images, s * MAX_STANDARD);
-    times_variable(cells, i, w, irreducibles.count, p)
+    times_variable(cells, i, w, irreducibles.count, field)
 }

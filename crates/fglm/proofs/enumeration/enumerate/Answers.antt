@@ -101,7 +101,6 @@ slice_bounds-image_of-end-in-loop-m c = sym (head (goal.at.slice_bounds-image_of
 
 pub image_of-w-requires : goal.image_of-w-requires
 image_of-w-requires c = let e = head (goal.at.image_of-w-requires c).In-loop-m in let (_, cells, _) = c.requires in record {
-  modulus = e.given.modulus;
   variables = e.given.variables.most;
   few = e.given.few;
   cells_size = cells;
@@ -114,14 +113,14 @@ image_of-w-requires c = let e = head (goal.at.image_of-w-requires c).In-loop-m i
 }
 
 pub residual-x-requires : goal.residual-x-requires
-residual-x-requires c = let e = head (goal.at.residual-x-requires c).In-loop-m in (e.given.modulus, e.kept.sound, c.image_of-w.ensures.below)
+residual-x-requires c = let e = head (goal.at.residual-x-requires c).In-loop-m in (e.kept.sound, c.image_of-w.ensures.below)
 
 pub dependence-requires : goal.dependence-requires
-dependence-requires c = ((head (goal.at.dependence-requires c).In-loop-m).given.modulus, c.residual-x.ensures.sound)
+dependence-requires c = c.residual-x.ensures.sound
 
 pub line_of-g-requires : goal.line_of-g-requires
 line_of-g-requires c = let e = head (goal.at.line_of-g-requires c).In-loop-m in record {
-  above_one = e.given.modulus.prime.above_one;
+  above_one = c.args.reciprocals.field.prime.prime.above_one;
   few = loop.standard-fits e;
   below = c.dependence.ensures.below;
   padded = e.held;
@@ -146,14 +145,13 @@ loop-m-preserved-in_default c = loop.onward (line (goal.at.loop-m-preserved-in_d
 
 pub scaled-requires : goal.scaled-requires
 scaled-requires c =
-    let g = (at-pivot c).given in
     let (place, nonzero, _) = pivot c in
-    (g.modulus, g.serves, c.residual-x.ensures.sound, place, nonzero)
+    (c.residual-x.ensures.sound, place, nonzero)
 
 pub insert-rows-requires : goal.insert-rows-requires
 insert-rows-requires c =
     let e = at-pivot (goal.at.insert-rows-requires c).In-Pivot in
-    (e.given.modulus, e.kept.sound, row_scaled _ c.residual-x.ensures (pivot (goal.at.insert-rows-requires c).In-Pivot) c.scaled.ensures, rows-room (goal.at.insert-rows-requires c).In-Pivot)
+    (e.kept.sound, row_scaled _ c.residual-x.ensures (pivot (goal.at.insert-rows-requires c).In-Pivot) c.scaled.ensures, rows-room (goal.at.insert-rows-requires c).In-Pivot)
 
 pub slice_bounds-put_row-end : goal.slice_bounds-put_row-end
 slice_bounds-put_row-end c = sym (at-pivot (goal.at.slice_bounds-put_row-end c).In-Pivot).kept.images_size

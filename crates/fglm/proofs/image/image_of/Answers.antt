@@ -36,7 +36,7 @@ inside : (c : After-rank_place-s) → c.rank_place-s.result < c.args.standard.co
 inside c = divisor-place c.args.standard (full (goal.at.After-rank_place-s c).Start) (omega (arith, c.if-n-i.false)) (split (goal.at.After-rank_place-s c).After-over_variable-b) c.requires.divisors (place c)
 
 pub returns-then-n-i : goal.returns-then-n-i
-returns-then-n-i c = image-one c.requires.modulus.prime.above_one (first-none c.first_variable-i.ensures c.if-n-i.true) c.one_row.ensures
+returns-then-n-i c = image-one c.args.field.prime.prime.above_one (first-none c.first_variable-i.ensures c.if-n-i.true) c.one_row.ensures
 
 pub over_variable-b-requires : goal.over_variable-b-requires
 over_variable-b-requires c = let i : c.first_variable-i.result < c.args.n = omega (arith, c.if-n-i.false) in
@@ -49,12 +49,12 @@ pub row_at-w-requires : goal.row_at-w-requires
 row_at-w-requires c = let g = c.requires in omega (arith, inside c, g.images_size, g.standard_few)
 
 -- The row that was found.
-image-below : (c : After-row_at-w) → Below c.args.p c.row_at-w.result
-image-below c = subst (Below c.args.p) (sym c.row_at-w.ensures) (c.requires.images_below _ (inside (goal.at.After-row_at-w c).After-rank_place-s))
+image-below : (c : After-row_at-w) → Below c.args.field.p c.row_at-w.result
+image-below c = subst (Below c.args.field.p) (sym c.row_at-w.ensures) (c.requires.images_below _ (inside (goal.at.After-row_at-w c).After-rank_place-s))
 
 pub times_variable-requires : goal.times_variable-requires
 times_variable-requires c = let g = c.requires in
-    (g.modulus, record { size = g.cells_size; below = g.cells_below }, omega (arith, c.if-n-i.false, g.variables), g.few, image-below c)
+    (record { size = g.cells_size; below = g.cells_below }, omega (arith, c.if-n-i.false, g.variables), g.few, image-below c)
 
 pub returns : goal.returns
 returns c =

@@ -5,8 +5,8 @@ use Rattle.fglm.proofs.elimination.Reduced.cleared.Goals as goal
 
 pub less-y-requires : goal.less-y-requires
 less-y-requires c =
-    let (modulus, row, q) = c.requires in
-    (modulus, row.vectors, row.vectors.row_below.below _, q)
+    let (row, q) = c.requires in
+    (row.vectors, row.vectors.row_below.below _, q)
 
 pub returns : goal.returns
 returns c = cleared_by refl c.less-y.ensures

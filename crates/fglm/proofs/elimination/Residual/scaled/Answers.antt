@@ -6,12 +6,13 @@ use Rattle.fglm.proofs.elimination.Residual.scaled.Goals as goal
 
 pub of-c-requires : goal.of-c-requires
 of-c-requires c =
-    let (_, serves, sound, _, nonzero) = c.requires in
-    (serves, omega (arith, nonzero), sound.row_below.below c.args.k)
+    let (sound, _, nonzero) = c.requires in
+    (omega (arith, nonzero), sound.row_below.below c.args.k)
 
 pub returns : goal.returns
 returns c =
-    let (modulus, serves, sound, _, nonzero) = c.requires in
+    let (sound, _, nonzero) = c.requires in
     let (inverse, below) = c.of-c.ensures in
-    let e = reciprocal-entry c.args.reciprocals modulus.prime.above_one serves _ _ (omega (arith, nonzero)) (sound.row_below.below c.args.k) inverse below in
+    let t = c.args.reciprocals in
+    let e = reciprocal-entry t t.field.prime.prime.above_one _ _ (omega (arith, nonzero)) (sound.row_below.below c.args.k) inverse below in
     scaled-by e c.multiply.ensures c.multiply-2.ensures

@@ -14,30 +14,30 @@ use Rattle.fglm.proofs.elimination.Rows.insert.Goals as goal
 
 size : (c : Start) → c.args.self.used ≤ length c.args.self.rows
 size c =
-    let (_, rows, _, _) = c.requires in
+    let (rows, _, _) = c.requires in
     let l : length c.args.self.rows ≡ most_standard = search (length-mapped, rules) in
     omega (arith, rows.size)
 
 -- Row i is sound.
-sound : (c : In-loop-i) → SoundRow c.args.p (row_at c.loop-i.self c.loop-i.i)
+sound : (c : In-loop-i) → SoundRow c.args.field.p (row_at c.loop-i.self c.loop-i.i)
 sound c =
-    let (_, rows, _, _) = c.requires in
+    let (rows, _, _) = c.requires in
     subst (SoundRow _) (sym (clearing-row c.loop-i.invariant)) (rows.rows c.loop-i.i c.loop-i-test.true)
 
 pub cleared-requires : goal.cleared-requires
 cleared-requires c =
-    let (modulus, _, q, _) = c.requires in
-    (modulus, sound (goal.at.cleared-requires c).In-loop-i, q)
+    let (_, q, _) = c.requires in
+    (sound (goal.at.cleared-requires c).In-loop-i, q)
 
 pub loop-i-preserved : goal.loop-i-preserved
 loop-i-preserved c =
-    let (modulus, _, q, _) = c.requires in
+    let (_, q, _) = c.requires in
     elim c.if-c-ne0.branch [
       | then-c-ne0 w ↦
           clearing-is w.self-is (clearing-turn c.loop-i.invariant c.loop-i-test.true (size (goal.at.loop-i-preserved c).Start) w.cleared.ensures)
       | else-c-ne0 w ↦
           clearing-is w.self-is
-          (clearing-skip c.loop-i.invariant c.loop-i-test.true (cleared-none modulus.prime.above_one q (sound (goal.at.loop-i-preserved c).In-loop-i) w.if-c-ne0.false))
+          (clearing-skip c.loop-i.invariant c.loop-i-test.true (cleared-none c.args.field.prime.prime.above_one q (sound (goal.at.loop-i-preserved c).In-loop-i) w.if-c-ne0.false))
     ]
 
 pub returns : goal.returns

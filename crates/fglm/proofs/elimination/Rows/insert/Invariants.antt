@@ -3,4 +3,4 @@ use Rattle.fglm.proofs.Clearing.{Clearing}
 use Rattle.fglm.proofs.elimination.Rows.insert.Given as goal
 
 abbrev pub invariant-loop-i : goal.invariant-loop-i
-invariant-loop-i l = Clearing l.p l.q l.initial.self l.self l.i
+invariant-loop-i l = Clearing l.field.p l.q l.initial.self l.self l.i

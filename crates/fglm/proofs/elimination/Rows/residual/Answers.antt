@@ -14,7 +14,7 @@ use Rattle.fglm.proofs.elimination.Rows.residual.Goals as goal
 
 full : (c : Start) → c.args.self.used ≤ length c.args.self.rows
 full c =
-    let (_, rows, _) = c.requires in
+    let (rows, _) = c.requires in
     let l : length c.args.self.rows ≡ most_standard = search (length-mapped, rules) in
     omega (arith, rows.size)
 
@@ -29,25 +29,25 @@ is c = get_or-take c.args.self.used c.args.self.rows c.loop-r.r-index no_row (us
 pub loop-r-init : goal.loop-r-init
 loop-r-init c =
     let u = c.unit.ensures in
-    let (_, _, v) = c.requires in
+    let (_, v) = c.requires in
     reducing-start (record { row_whole = search (length-mapped, rules); combination_whole = u.whole; row_below = v; combination_below = u.below })
 
 pub less-x-requires : goal.less-x-requires
 less-x-requires c =
-    let (modulus, rows, v) = c.requires in
+    let (rows, v) = c.requires in
     let k = (goal.at.less-x-requires c).In-loop-r in
-    (modulus, c.loop-r.invariant.sound, v.below _, rw (is k) (rows.rows c.loop-r.r-index (used k)))
+    (c.loop-r.invariant.sound, v.below _, rw (is k) (rows.rows c.loop-r.r-index (used k)))
 
 pub loop-r-preserved : goal.loop-r-preserved
 loop-r-preserved c =
-    let (modulus, rows, _) = c.requires in
+    let (rows, _) = c.requires in
     let k = (goal.at.loop-r-preserved c).In-loop-r in
     let s = (goal.at.loop-r-preserved c).Start in
     elim c.if-c-ne0.branch [
       | then-c-ne0 w ↦ reducing-is w.x-is (reducing-turn c.loop-r.invariant (used k) (full s) refl (rw (is k) at w.less-x.ensures))
       | else-c-ne0 w ↦
           reducing-is w.x-is
-          (reducing-skip c.loop-r.invariant (used k) (full s) refl modulus.prime.above_one (rows.rows c.loop-r.r-index (used k)) (rw (is k) at w.if-c-ne0.false))
+          (reducing-skip c.loop-r.invariant (used k) (full s) refl c.args.field.prime.prime.above_one (rows.rows c.loop-r.r-index (used k)) (rw (is k) at w.if-c-ne0.false))
     ]
 
 pub returns : goal.returns

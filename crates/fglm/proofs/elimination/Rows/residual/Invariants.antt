@@ -3,4 +3,4 @@ use Rattle.fglm.proofs.Reducing.{Reducing}
 use Rattle.fglm.proofs.elimination.Rows.residual.Given as goal
 
 abbrev pub invariant-loop-r : goal.invariant-loop-r
-invariant-loop-r l = Reducing l.p l.fn.self l.v l.initial.x l.x l.r-index
+invariant-loop-r l = Reducing l.field.p l.fn.self l.v l.initial.x l.x l.r-index
