@@ -1,15 +1,17 @@
 -- Arrays of exponents and the rows that they hold.
 --   exponent-row       in the row of an array, the exponent of variable i is what stands at place i
+--   exponent-front     so it is among the first n places
 --   exponents-at       in the array of a row, the exponent of variable i stands at place i
 --   exponents-length   the array of a row of n exponents has n places
 --   row-monomial       the value with the exponents a holds the row a
 --   degree-more        one exponent more is added to the total degree
-use mathlib.Core.Path.{◌≡◌, refl, ap}
+use mathlib.Core.Path.{◌≡◌, refl, sym, ◌∙◌, ap}
 use mathlib.Core.List.{List, [], ◌∷◌, ◌++◌}
 use Prim.Native.Nat.{ℕ, zero, suc, ◌+◌, ◌<◌}
 use native.Mathlib.Numerals.{add-one}
 use native.Mathlib.Omega.{arith}
-use lib.ListN.{length, get_or}
+use lib.ListN.{length, get_or, take}
+use Rattle.std.proofs.lemmas.List.{get_or-take}
 use Rattle.monomial.specs.Rows.{Row, exponent, degree}
 use Rattle.monomial.specs.Represented.{row_of, row, exponent_list, monomial}
 use Rattle.monomial.specs.declared.Exponent.{Exponent}
@@ -23,6 +25,10 @@ exponent-row (suc n) zero [] h = refl
 exponent-row (suc n) zero (x ∷ l) h = refl
 exponent-row (suc n) (suc i) [] h = exponent-row n i [] (omega arith)
 exponent-row (suc n) (suc i) (x ∷ l) h = exponent-row n i l (omega arith)
+
+pub exponent-front : (n i : ℕ) (m : Monomial) → i < n → exponent n (row n m) i ≡ (get_or (take n m.e) i (record { 0 = 0 })).0
+unfolding row
+exponent-front n i m h = exponent-row n i m.e h ∙ ap (λ (x : Exponent). x.0) (sym (get_or-take n m.e i _ h))
 
 pub exponents-at : (n i : ℕ) (a : Row n) (d : Exponent) → i < n → (get_or (exponent_list n a) i d).0 ≡ exponent n a i
 unfolding exponent exponent_list

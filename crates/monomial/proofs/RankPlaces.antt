@@ -2,30 +2,24 @@
 --   rank_same                          the test of `equal`
 --   ranks-less                         a smaller rank of a list is that of a smaller monomial
 --   ranks-bounded, variables-bounded   the ranks of a list are below above_ranks, and those of the variables
---   Unseen ranks count w k             the loop of `rank_place` and `place_after`: the rank w is at no place below k
---   unseen-none, unseen-more           before the first turn, and after a turn
---   unseen-found, unseen-all           w is found, and it is nowhere
---   unseen_from, rank-passed           in rising ranks: w is sought from a place on, and a greater rank is found
 --   RanksStored n f count ranks₀ ranks k the loop of `put_variable_ranks`, `put_ranks` and `put_lead_ranks`: the first k ranks are stored
 --   ranks-none, ranks-more, ranks-all   before the first turn, after a turn, and after the last
 --   variables-ranked                    after the last, of the variables
 use mathlib.Core.Path.{◌≡◌, sym, ◌∙◌, ap}
 use mathlib.Core.List.{List}
 use mathlib.Core.Bool.{true}
-use mathlib.Core.Logic.{◌↔◌, by_cases}
+use mathlib.Core.Logic.{◌↔◌}
 use Prim.Native.Nat.{ℕ, ◌+◌, ◌≤◌, ◌<◌}
-use native.Mathlib.Decide.{dec_lt}
 use native.Mathlib.Omega.{arith}
 use borrow.Author.Tests.{eq-eqb, eqb-true}
 use lib.Dec.{eqb}
 use lib.ListN.{length, get_or, set}
-use Rattle.lists.proofs.Sought.{Unseen}
 use Rattle.lists.proofs.Storing.{FilledTo, stored-none, stored_more}
 use Rattle.monomial.specs.Sizes.{most_variables}
 use Rattle.monomial.specs.Rows.{Row, one}
 use Rattle.monomial.specs.Quotients.{variable}
 use Rattle.monomial.specs.Ordering.{Grevlex}
-use Rattle.monomial.specs.Ranks.{rank_of, Short, RanksOf, VariableRanks, FirstRank, RisingRanks, Bounded}
+use Rattle.monomial.specs.Ranks.{rank_of, Short, RanksOf, VariableRanks, Bounded}
 use Rattle.monomial.proofs.RankOrder.{rank_less, rank-injective, rank-small}
 
 module _ (n : ℕ) where
@@ -41,28 +35,6 @@ module _ (n : ℕ) where
 
   pub ranks-bounded : n ≤ most_variables → {B : List (Row n)} {count : ℕ} {ranks : List ℕ} → RanksOf n B count ranks → Bounded ranks count
   ranks-bounded h are k u = omega (arith, are.rank k u, rank-small n h _ (are.short k u))
-
--- The rank w is sought.
-module _ (ranks : List ℕ) {count w k : ℕ} (so_far : Unseen (λ j. get_or ranks j 0 ≡ w) count k) where
-  pub rank-found : get_or ranks k 0 ≡ w → FirstRank ranks count w k
-  rank-found e = record { within = so_far.within; found = λ _. e; first = so_far.nowhere }
-
-  pub rank-nowhere : count ≤ k → FirstRank ranks count w count
-  rank-nowhere h = record { within = omega arith; found = λ u. absurd (omega arith); first = λ j u. so_far.nowhere j (omega arith) }
-
--- Rising ranks, of which the first are smaller than w.
-module _ (ranks : List ℕ) {count w : ℕ} (rising : RisingRanks ranks count) where
-  pub unseen_from : {k : ℕ} → k ≤ count → ((j : ℕ) → j < k → get_or ranks j 0 < w) → Unseen (λ j. get_or ranks j 0 ≡ w) count k
-  unseen_from h low = record { within = h; nowhere = λ j u e. omega (arith, low j u, e) }
-
-  pub rank-passed : {k : ℕ} → Unseen (λ j. get_or ranks j 0 ≡ w) count k → k < count → w ≤ get_or ranks k 0 → ¬ (get_or ranks k 0 ≡ w) → FirstRank ranks count w count
-  rank-passed {k} so_far h more other = record {
-    within = omega arith;
-    found = λ u. absurd (omega (arith, u));
-    first = λ j u e. by_cases (dec_lt j k) (λ v. so_far.nowhere j v e) (λ v. by_cases (dec_lt k j)
-        (λ q. omega (arith, rising k j q u, more, e))
-        (λ q. other (ap (λ i. get_or ranks i 0) (omega (arith, v, q)) ∙ e)));
-  }
 
 -- Of the ranks of the monomials f 0, f 1, .. the first k are stored.
 pub record RanksStored (n : ℕ) (f : ℕ → Row n) (count : ℕ) (ranks₀ ranks : List ℕ) (k : ℕ) : Type 0 where

@@ -16,7 +16,7 @@ use Rattle.monomial.specs.Sizes.{most_variables}
 use Rattle.monomial.specs.Rows.{Row, one, exponent, product}
 use Rattle.monomial.specs.Quotients.{quotient, variable}
 use Rattle.monomial.specs.Represented.{row, monomial, exponent_list, most_entry}
-use Rattle.monomial.specs.FirstVariable.{FirstVariable}
+use Rattle.monomial.specs.FirstVariable.{VariableAt}
 use Rattle.monomial.specs.declared.Exponent.{Exponent}
 use Rattle.monomial.specs.declared.Monomial.{Monomial}
 use Rattle.monomial.proofs.Products.{row-extensional, exponent-one, product-comm, product-quotient, divides-iff}
@@ -48,11 +48,11 @@ variable-fits n i j l h = by_cases (ℕ_discrete j i) (λ p. rw p (omega (arith,
 pub quotient-row : (n : ℕ) (a b u w : Row n) {r : Monomial} → a ≡ u → b ≡ w → r ≡ monomial n (quotient n a b) → row n r ≡ quotient n u w
 quotient-row n a b u w p q e = ap (row n) e ∙ row-monomial n _ ∙ ap₂ (quotient n) p q
 
-module _ {n : ℕ} {m : Row n} {r : ℕ} (f : FirstVariable n m r) where
-  pub first-none : n ≤ r → m ≡ one n
-  first-none l = row-extensional n (λ i h. f.first i (omega arith) ∙ sym (exponent-one n i))
+module _ {n : ℕ} {m : Row n} where
+  pub first-none : ((i : ℕ) → i < n → exponent n m i ≡ 0) → m ≡ one n
+  first-none f = row-extensional n (λ i h. f i h ∙ sym (exponent-one n i))
 
-  pub first_some : r < n → m ≡ product n (variable n r) (quotient n m (variable n r))
-  first_some l =
-      let d = (divides-iff n (variable n r) m).1 ((power_divides n r l 1 m).1 (f.found l)) in
+  pub first_some : {r : ℕ} → VariableAt n m r → m ≡ product n (variable n r) (quotient n m (variable n r))
+  first_some {r} f =
+      let d = (divides-iff n (variable n r) m).1 ((power_divides n r f.within 1 m).1 f.found) in
       sym (product-quotient n m (variable n r) d) ∙ product-comm n _ (variable n r)

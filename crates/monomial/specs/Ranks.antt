@@ -8,11 +8,12 @@
 --   above_ranks                        more than any rank
 --   RanksOf n B count ranks            the first ranks are those of the monomials B
 --   VariableRanks n ranks              the first n ranks are those of the variables
---   FirstRank ranks count w r          r is the first place of w among the first ranks, or `count` where it is none of them
+--   RankAt ranks count w r             r is the first place of w among the first ranks
+--   FirstRank ranks count w r          so it is, or r is None and w is none of them
 --   RisingRanks ranks count            the first ranks rise
 --   Bounded ranks count                the first ranks are below above_ranks
---   NextRank ranks count from best j   of the ranks before place j that are at least `from`, the least is at place `best`
-use Rattle.std.specs.Prelude.{ℕ, zero, suc, ◌+◌, ◌-◌, ◌*◌, ◌^◌, ◌≤◌, ◌<◌, ◌≡◌, List, length, get_or}
+--   NextRank ranks from best j         of the ranks before place j that are at least `from`, the least is at place `best`
+use Rattle.std.specs.Prelude.{ℕ, zero, suc, ◌+◌, ◌-◌, ◌*◌, ◌^◌, ◌≤◌, ◌<◌, ◌≡◌, List, length, get_or, Option, Some, None}
 use Rattle.monomial.specs.Represented.{most_entry}
 use Rattle.monomial.specs.Rows.{Row, one, exponent, degree}
 use Rattle.monomial.specs.Quotients.{variable}
@@ -61,11 +62,16 @@ pub record VariableRanks (n : ℕ) (ranks : List ℕ) : Type 0 where
   pub rank : (i : ℕ) → i < n → get_or ranks i 0 ≡ rank_of n (variable n i)
   pub short : (i : ℕ) → i < n → Short n (variable n i)
 
--- r is the first place of w among the first ranks, or `count` where it is none of them.
-pub record FirstRank (ranks : List ℕ) (count w r : ℕ) : Type 0 where
-  pub within : r ≤ count
-  pub found : r < count → get_or ranks r 0 ≡ w
+-- r is the first place of w among the first ranks.
+pub record RankAt (ranks : List ℕ) (count w r : ℕ) : Type 0 where
+  pub within : r < count
+  pub found : get_or ranks r 0 ≡ w
   pub first : (k : ℕ) → k < r → ¬ (get_or ranks k 0 ≡ w)
+
+-- r is the first place of w among the first ranks, or None where it is none of them.
+pub record FirstRank (ranks : List ℕ) (count w : ℕ) (r : Option ℕ) : Type 0 where
+  pub some : (k : ℕ) → r ≡ Some k → RankAt ranks count w k
+  pub none : r ≡ None → (k : ℕ) → k < count → ¬ (get_or ranks k 0 ≡ w)
 
 -- The first ranks rise.
 abbrev pub RisingRanks : List ℕ → ℕ → Type 0
@@ -75,6 +81,6 @@ RisingRanks ranks count = (j k : ℕ) → j < k → k < count → get_or ranks j
 abbrev pub Bounded : List ℕ → ℕ → Type 0
 Bounded ranks count = (k : ℕ) → k < count → get_or ranks k 0 < above_ranks
 
--- Of the ranks before place j that are at least `from`, the least is at place `best`; that is `count` where there is none.
-abbrev pub NextRank : List ℕ → (count from best j : ℕ) → Type 0
-NextRank ranks count from = Least count ◌<◌ (λ k. from ≤ get_or ranks k 0) (λ k. get_or ranks k 0)
+-- Of the ranks before place j that are at least `from`, the least is at place `best`; that is None where there is none.
+abbrev pub NextRank : List ℕ → (from : ℕ) (best : Option ℕ) (j : ℕ) → Type 0
+NextRank ranks from = Least ◌<◌ (λ k. from ≤ get_or ranks k 0) (λ k. get_or ranks k 0)

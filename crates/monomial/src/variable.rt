@@ -18,17 +18,12 @@ pub fn variable(i: usize) -> Monomial
     m
 }
 
-// The first variable that divides m, or n where m is 1.
-pub fn first_variable(m: Monomial, n: usize) -> usize
+// The first variable that divides m, if m is not 1.
+pub fn first_variable(m: Monomial, n: usize) -> Option<usize>
     requires { n ≤ most_variables }
     ensures { FirstVariable n (row n m) result }
 {
-    for i in 0..n {
-        if m.exponent(i).0 != 0 {
-            return i;
-        }
-    }
-    n
+    m.e[..n].iter().position(|e| e.0 != 0)
 }
 
 // m / x_i, for x_i that divides m.
