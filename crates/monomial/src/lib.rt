@@ -26,10 +26,10 @@ pub const MAX_VARIABLES: usize = 4;
 // The largest exponent of a text, which the definitions have as most_exponent.
 pub const MAX_EXPONENT: u8 = 32;
 
-#[derive(Clone, Copy, PartialEq, Eq, PartialOrd, Ord)]
+#[derive(Clone, Copy, Default, PartialEq, Eq, PartialOrd, Ord)]
 pub struct Exponent(pub u8);
 
-#[derive(Clone, Copy, PartialEq, Eq)]
+#[derive(Clone, Copy, Default, PartialEq, Eq)]
 pub struct Monomial {
     pub e: [Exponent; MAX_VARIABLES],
 }
