@@ -11,13 +11,11 @@
 --   multiplied p c a       c·a
 --   unit_vector p k        one at place k, zero elsewhere; all zero if there is no place k
 --   FirstPlace a o         o is the first place of a that is not zero, or says that there is none
-use Rattle.std.specs.Prelude.{◌≡◌, true, false, List, map, ℕ, ◌<◌, ◌≤◌, length, get_or, eqb}
+use Rattle.std.specs.Prelude.{◌≡◌, true, false, List, map, ℕ, ◌<◌, ◌≤◌, length, get_or, eqb, Option, Some, None}
 use Rattle.residue.specs.Field.{ZMod, modulo, residue}
 use Rattle.groebner.specs.CoefficientRows.{subtract_multiple, multiply, unit_array}
 use Rattle.lines.specs.Sizes.{most_standard}
 use Rattle.coordinates.specs.declared.Coordinates.{Coordinates}
-use Rattle.coordinates.specs.declared.vectors.Found.{Found}
-use Rattle.coordinates.specs.declared.vectors.Found.TheVariants.{Pivot, Dependent}
 
 -- Coefficient k.
 abbrev pub coordinate : Coordinates → ℕ → ℕ
@@ -68,6 +66,6 @@ abbrev pub unit_vector : (p : ℕ) → ℕ → 1 < p → List (ZMod p)
 unit_vector p k h = unit_array (modulo p h) most_standard k
 
 -- The first place that is not zero.
-abbrev pub FirstPlace : Coordinates → Found → Type 0
-FirstPlace a (Pivot k) = (k < most_standard) × ¬ (coordinate a k ≡ 0) × ((j : ℕ) → j < k → coordinate a j ≡ 0)
-FirstPlace a Dependent = (j : ℕ) → coordinate a j ≡ 0
+abbrev pub FirstPlace : Coordinates → Option ℕ → Type 0
+FirstPlace a (Some k) = (k < most_standard) × ¬ (coordinate a k ≡ 0) × ((j : ℕ) → j < k → coordinate a j ≡ 0)
+FirstPlace a None = (j : ℕ) → coordinate a j ≡ 0

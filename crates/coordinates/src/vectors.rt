@@ -8,13 +8,6 @@ use lines::sizes::MAX_STANDARD;
 use residue::Residue;
 use residue::field::PrimeField;
 
-// A pivot: the first place that is not zero. Of a vector that is zero there is none: it depends on those before it.
-#[derive(Clone, Copy)]
-pub enum Found {
-    Pivot(usize),
-    Dependent,
-}
-
 // a - c·b, as a + (p - c)·b
 pub fn subtract_multiple(
     a: Coordinates,
@@ -82,13 +75,8 @@ pub fn same_coordinates(a: Coordinates, other: Coordinates) -> bool
 }
 
 // The first place that is not zero.
-pub fn first_nonzero(a: Coordinates) -> Found
+pub fn first_nonzero(a: Coordinates) -> Option<usize>
     ensures { FirstPlace a result }
 {
-    for k in 0..MAX_STANDARD {
-        if a.c[k].0 != 0 {
-            return Found::Pivot(k);
-        }
-    }
-    Found::Dependent
+    a.c.iter().position(|c| !c.is_zero())
 }

@@ -5,9 +5,11 @@
 --   Storing       an array that a loop fills
 --   Testing       the answer of a loop that tests each number below n
 --   Sought        the loop of a search for the first place that has P
+--   Positions     what a search for the first element that passes a test finds
 pub mod Elements
 pub mod EachElement
 pub mod Tabulated
 pub mod Storing
 pub mod Testing
 pub mod Sought
+pub mod Positions
