@@ -1,14 +1,13 @@
--- The rows of exponents that arrays of monomials hold.
---   no_monomial   a value without exponents, which stands past the end of an array
+-- The rows of exponents that lists of monomials hold.
+--   no_monomial   a value without exponents, which stands past the end of a list
 --   row-empty     a value without exponents holds the monomial 1
 --   row_at        term k of a line, as a row
---   rows-length   the first `count` monomials of an array are that many
+--   rows-length   a list of monomials has as many rows
 --   rows_at       the j-th of them
 use mathlib.Core.Path.{◌≡◌, refl, sym, ◌∙◌, ap}
 use mathlib.Core.List.{List, [], ◌∷◌, map}
-use Prim.Native.Nat.{ℕ, zero, suc, ◌≤◌, ◌<◌}
-use lib.ListN.{length, take, get_or, length-map, get_or-map}
-use lib.Seq.{length-take-le, get_or-take}
+use Prim.Native.Nat.{ℕ, zero, suc}
+use lib.ListN.{length, get_or, length-map, get_or-map}
 use Rattle.monomial.specs.Sizes.{most_variables}
 use Rattle.monomial.specs.Rows.{one}
 use Rattle.monomial.specs.Represented.{row_of, row, exponent_list, monomial}
@@ -50,11 +49,11 @@ row_at n g k = go g.monomials k
     go (m ∷ l) zero = refl
     go (m ∷ l) (suc k) = go l k
 
-module _ (n count : ℕ) (ms : List Monomial) where
-  pub rows-length : count ≤ length ms → length (rows_of n count ms) ≡ count
+module _ (n : ℕ) (ms : List Monomial) where
+  pub rows-length : length (rows_of n ms) ≡ length ms
   unfolding rows_of
-  rows-length h = length-map (take count ms) (row n) ∙ length-take-le count ms h
+  rows-length = length-map ms (row n)
 
-  pub rows_at : (j : ℕ) → j < count → get_or (rows_of n count ms) j (one n) ≡ row n (get_or ms j no_monomial)
+  pub rows_at : (j : ℕ) → get_or (rows_of n ms) j (one n) ≡ row n (get_or ms j no_monomial)
   unfolding rows_of
-  rows_at j h = ap (get_or (map (row n) (take count ms)) j) (sym (row-empty n)) ∙ get_or-map (row n) (take count ms) j no_monomial ∙ ap (row n) (get_or-take count ms j no_monomial h)
+  rows_at j = ap (get_or (map (row n) ms) j) (sym (row-empty n)) ∙ get_or-map (row n) ms j no_monomial

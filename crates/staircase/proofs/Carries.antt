@@ -14,6 +14,7 @@ use Prim.Native.Nat.{ℕ, ◌+◌, ◌-◌, ◌≤◌, ◌<◌}
 use native.Mathlib.Omega.{arith}
 use lib.ListN.{length, get_or, take, drop, length-take, drop_of_length-le, take-append-drop}
 use lib.Seq.{get_or-take, length-take-le}
+use Rattle.std.specs.Prelude.{Some, None}
 use Rattle.lists.proofs.Elements.{element-in}
 use Rattle.monomial.specs.Rows.{Row, exponent}
 use Rattle.monomial.specs.Represented.{row, monomial}
@@ -54,13 +55,8 @@ module _ (n v : ℕ) (s : List ℕ) (excluded : Row n → Bool) (m : Row n) (now
   next-not-here e = rw (nowhere, e)
 
 module _ {n : ℕ} {vs : List ℕ} {excluded : Row n → Bool} {m : Row n} {r : Monomial} {i : ℕ} (so_far : Cleared n vs excluded m r i) where
-  pub cleared-all : i ≡ 0 → FoundNext n (take n vs) excluded m false r
-  cleared-all z =
-      let s = drop i (take n vs) in record {
-        is_next = rw z at so_far.nowhere;
-        padded = padded n (clear n s m) so_far.cleared;
-        raised = λ k l. rw (held-row n (clear n s m) so_far.cleared) (omega (arith, clear-below n s m k));
-      }
+  pub cleared-all : i ≡ 0 → FoundNext n (take n vs) excluded m None
+  cleared-all z = record { is_next = rw z at so_far.nowhere; padded = tt; raised = tt }
 
   module _ (before : 0 < i) where
     abbrev v : ℕ
@@ -91,7 +87,7 @@ module _ {n : ℕ} {vs : List ℕ} {excluded : Row n → Bool} {m : Row n} {r : 
       tested : {u : Bool} → t ≡ u → excluded (carried n v s m) ≡ u
       tested e = ap excluded (sym (held-row n (carried n v s m) carries)) ∙ sym test ∙ e
 
-      pub cleared-found : t ≡ false → FoundNext n (take n vs) excluded m true (raised_at v r)
+      pub cleared-found : t ≡ false → FoundNext n (take n vs) excluded m (Some (raised_at v r))
       cleared-found e =
           let q = held-row n (carried n v s m) carries in
           let p : next n (drop (i - 1) (take n vs)) excluded m ≡ some (carried n v s m) = rw suffix (next_here n v s excluded m so_far.nowhere (tested e)) in record {

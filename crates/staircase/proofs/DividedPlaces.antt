@@ -4,13 +4,13 @@
 --   DividedAt R 𝓜 G d i      a monomial of the line at place i is divisible by the leading monomial of the line at another place
 --   divided-iff              check 12 by places of the lines
 --   divides-term-iff         the test for the terms of a line
---   divided-by-another-iff   a monomial of an array at another place than i divides one of the line's
+--   divided-by-another-iff   a monomial of a list at another place than i divides one of the line's
 --   divided-of-basis         check 12 by places of the arrays
 use mathlib.Core.Path.{◌≡◌, refl, sym, ◌∙◌, ap, subst, subst₂}
 use mathlib.Core.List.{List, [], map}
 use mathlib.Core.Bool.{Bool, true}
 use mathlib.Core.Logic.{◌↔◌}
-use Prim.Native.Nat.{ℕ, zero, suc, ◌+◌, ◌≤◌, ◌<◌}
+use Prim.Native.Nat.{ℕ, zero, suc, ◌+◌, ◌<◌}
 use native.Mathlib.Omega.{arith}
 use lib.ListN.{length, get_or, length-map, get_or-map}
 use Rattle.lists.specs.Lists.{◌∈◌}
@@ -93,14 +93,14 @@ divides-term-iff n d g i = (λ e. let (k, l, q) = i.0 e in (k, l, (at k).0 q), �
     at : (k : ℕ) → (divides n d (row n (get_or g.monomials k no_monomial)) ≡ true) ↔ Divides (monomials n) d (row n (monomial_at g k))
     at k = rw row_at (divides-iff n d _)
 
-pub divided-by-another-iff : (n i count : ℕ) (ms : List Monomial) (g : Generator) → count ≤ length ms
-    → DividedByAnother n i (rows_of n count ms) g ↔ ((j : ℕ) × (j < count) × ((¬ (j ≡ i)) × DividesTerm n (row n (get_or ms j no_monomial)) g))
-divided-by-another-iff n i count ms g h = (
-  λ (j, l, d, t). let l' : j < count = omega (arith, rows-length n count ms h) in (j, l', (d, subst (λ (x : Row n). DividesTerm n x g) (rows_at n count ms j l') t)),
-  λ (j, l, (d, t)). (j, omega (arith, rows-length n count ms h), d, subst (λ (x : Row n). DividesTerm n x g) (sym (rows_at n count ms j l)) t),
+pub divided-by-another-iff : (n i : ℕ) (ms : List Monomial) (g : Generator)
+    → DividedByAnother n i (rows_of n ms) g ↔ ((j : ℕ) × (j < length ms) × ((¬ (j ≡ i)) × DividesTerm n (row n (get_or ms j no_monomial)) g))
+divided-by-another-iff n i ms g = (
+  λ (j, l, d, t). (j, omega (arith, rows-length n ms), (d, subst (λ (x : Row n). DividesTerm n x g) (rows_at n ms j) t)),
+  λ (j, l, (d, t)). (j, omega (arith, rows-length n ms), d, subst (λ (x : Row n). DividesTerm n x g) (sym (rows_at n ms j)) t),
 )
 
-module _ (b : StoredBasis) (sound : Sound b) (filled : WithinArrays b) (count : ℕ) (ms : List Monomial) (leads : LeadsOf b count ms) (h : 1 < b.p) where
+module _ (b : StoredBasis) (sound : Sound b) (filled : WithinArrays b) (ms : List Monomial) (leads : LeadsOf b ms) (h : 1 < b.p) where
   abbrev n : ℕ
   n = b.n
 
@@ -108,7 +108,7 @@ module _ (b : StoredBasis) (sound : Sound b) (filled : WithinArrays b) (count : 
   G = stored_lines b h
 
   abbrev L : List (Row n)
-  L = rows_of n count ms
+  L = rows_of n ms
 
   many : length L ≡ length G
   many = ap length (leads.1 h) ∙ length-map G (λ g. g.0)

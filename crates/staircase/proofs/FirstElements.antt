@@ -1,4 +1,5 @@
--- Searches among the first elements of an array, and tests of all numbers below n.
+-- Searches among the elements of a list, or the first ones of an array, and tests of all numbers below n.
+--   any-iff      an element of a list passes a test, by places
 --   passes-iff   an element of the first ones passes a test, by places
 --   each-iff     all numbers below n have P
 use mathlib.Core.Path.{◌≡◌, refl, sym, ◌∙◌, ap, subst}
@@ -15,15 +16,19 @@ use Rattle.std.proofs.lemmas.List.{get_or_default}
 use Rattle.std.proofs.lemmas.List.FromFn.{get_or-range_with_len, length-range_with_len}
 use Rattle.std.proofs.lemmas.List.Folds.{Any-from_list_any, list_any_at}
 
+pub any-iff : {A : Type 0} (p : A → Bool) (xs : List A) (d : A) {t : Bool} → t ≡ list_any p xs → (t ≡ true) ↔ ((j : ℕ) × (j < length xs) × (p (get_or xs j d) ≡ true))
+any-iff p xs d e = (
+  λ q. let (j, x, l, s, o) = Any-from_list_any p xs (sym e ∙ q) in (j, omega (arith, l), ap p (get_or_default xs j d x (omega (arith, l)) ∙ s) ∙ o),
+  λ (j, l, o). e ∙ list_any_at p xs j d (omega (arith, l)) o,
+)
+
 pub passes-iff : {A : Type 0} (p : A → Bool) (xs : List A) (count : ℕ) (d : A) {t : Bool} → count ≤ length xs → t ≡ list_any p (take count xs)
     → (t ≡ true) ↔ ((j : ℕ) × (j < count) × (p (get_or xs j d) ≡ true))
-passes-iff p xs count d h e = (
-  λ q.
-      let (j, x, l, s, o) = Any-from_list_any p (take count xs) (sym e ∙ q) in
-      let l' : j < count = omega (arith, l, length-take-le count xs h) in
-      (j, l', ap p (get_or_default xs j d x (omega (arith, l', h)) ∙ sym (get_or-take count xs j x l') ∙ s) ∙ o),
-  λ (j, l, o). e ∙ list_any_at p (take count xs) j d (omega (arith, l, length-take-le count xs h)) (ap p (get_or-take count xs j d l) ∙ o),
-)
+passes-iff p xs count d {t} h e =
+    let i : (t ≡ true) ↔ ((j : ℕ) × (j < length (take count xs)) × (p (get_or (take count xs) j d) ≡ true)) = any-iff p (take count xs) d e in (
+      λ q. let (j, l, o) = i.0 q in let l' : j < count = omega (arith, l, length-take-le count xs h) in (j, l', ap p (sym (get_or-take count xs j d l')) ∙ o),
+      λ (j, l, o). i.1 (j, omega (arith, l, length-take-le count xs h), ap p (get_or-take count xs j d l) ∙ o),
+    )
 
 module _ (P : ℕ → Type 0) (n : ℕ) where
   number : (k : ℕ) → k < n → get_or (range_with_len 0 n) k 0 ≡ k

@@ -9,6 +9,7 @@ use mathlib.Core.List.{List, [], ◌∷◌, map}
 use Prim.Native.Nat.{ℕ, ◌≤◌, ◌<◌}
 use native.Mathlib.Omega.{arith}
 use lib.ListN.{length}
+use Rattle.std.specs.Prelude.{Some}
 use Rattle.lists.specs.Lists.{◌∈◌}
 use Rattle.lists.proofs.Elements.{element-in}
 use Rattle.monomial.specs.Represented.{most_entry}
@@ -35,7 +36,6 @@ use Rattle.staircase.specs.Leads.{rows_of, LeadsOf, multiple, CountIs}
 use Rattle.staircase.specs.Sound.{Sound}
 use Rattle.staircase.specs.Listed.{listed, listed_at, ListsIrreducibles}
 use Rattle.staircase.specs.Sorted.{Sorted}
-use Rattle.staircase.specs.declared.irreducible.Irreducibles.{Irreducibles}
 use Rattle.staircase.proofs.ArrayRows.{rows-length}
 use Rattle.staircase.proofs.SortedLists.{sorted-lists}
 
@@ -52,7 +52,7 @@ module _ {F : Type 0} (n : ℕ) (G : List (Line F (Row n))) where
   abbrev Irreducible : Row n → Type 0
   Irreducible m = ¬ Reducible (monomials n) G m
 
-  pub counted-irreducibles : (L B : List (Row n)) → L ≡ map (λ g. g.0) G → (most : ℕ) → CountIs n (variables n) (multiple n L) most false B
+  pub counted-irreducibles : (L B : List (Row n)) → L ≡ map (λ g. g.0) G → (most : ℕ) → CountIs n (variables n) (multiple n L) most (Some B)
       → (length B ≤ most) × ListsRising (Lex n (variables n)) Irreducible B
   counted-irreducibles L B e most counted = subst (Counts (Lex n (variables n)) Irreducible most)
       (ap (λ f. irreducibles n (next n (variables n)) f most) (sym (ap (multiple n) e ∙ multiple-leads n G)) ∙ counted)
@@ -62,23 +62,18 @@ module _ {F : Type 0} (n : ℕ) (G : List (Line F (Row n))) where
   exponents-bounded B all m p = exponent-bounded n m B (λ d q _. all d (λ r. p (r.0, r.1, divides-trans (rows-laws n) r.2 q)))
 
 -- l is the answer of `list_irreducibles`, and r that of `by_grevlex`.
-pub sorted-irreducibles : (b : StoredBasis) → Sound b → (count : ℕ) (ms : List Monomial) → LeadsOf b count ms → (l r : Irreducibles)
-    → CountIs b.n (variables b.n) (multiple b.n (rows_of b.n count ms)) most_standard l.many (listed b.n l) → l.count ≤ most_standard → l.many ≡ false
-    → Sorted b.n l r → r.count ≤ length r.monomials → ListsIrreducibles b r
-sorted-irreducibles b sound count ms leads l r counted few e sorted full = record { few = omega (arith, sorted.few); exponents = exponents; lists = lists }
+pub sorted-irreducibles : (b : StoredBasis) → Sound b → (ms : List Monomial) → LeadsOf b ms → (l r : List Monomial)
+    → CountIs b.n (variables b.n) (multiple b.n (rows_of b.n ms)) most_standard (Some (listed b.n l)) → length l ≤ most_standard → Sorted b.n l r → ListsIrreducibles b r
+sorted-irreducibles b sound ms leads l r counted few sorted = record { few = omega (arith, sorted.few); exponents = exponents; lists = lists }
   where
     lists : (h : 1 < b.p) → ListsRising (Grevlex b.n) (Irreducible b.n (stored_lines b h)) (listed b.n r)
     lists h = sorted-lists sorted (Irreducible b.n (stored_lines b h))
         (lists-once (lex-order b.n (variables b.n) (variables-ranking b.n).all) (Irreducible b.n (stored_lines b h)) (listed b.n l)
-        (counted-irreducibles b.n (stored_lines b h) (rows_of b.n count ms) (listed b.n l) (leads.1 h) most_standard
-        (subst (λ t. CountIs b.n (variables b.n) (multiple b.n (rows_of b.n count ms)) most_standard t (listed b.n l)) e counted)).1)
+        (counted-irreducibles b.n (stored_lines b h) (rows_of b.n ms) (listed b.n l) (leads.1 h) most_standard counted).1)
 
-    size : length (listed b.n r) ≡ r.count
-    size = rows-length b.n r.count r.monomials full
-
-    exponents : (k : ℕ) → k < r.count → (i : ℕ) → i < b.n → exponent b.n (listed_at b.n r k) i < most_entry
+    exponents : (k : ℕ) → k < length r → (i : ℕ) → i < b.n → exponent b.n (listed_at b.n r k) i < most_entry
     exponents k u i v =
         let h = sound.modulus.prime.above_one in
         let w = lists h in
-        let inside = w.only _ (element-in (one b.n) (listed b.n r) k (omega (arith, size))) in
-        omega (arith, exponents-bounded b.n (stored_lines b h) (listed b.n r) w.all (listed_at b.n r k) inside i v, size, sorted.few)
+        let inside = w.only _ (element-in (one b.n) (listed b.n r) k (omega (arith, rows-length b.n r))) in
+        omega (arith, exponents-bounded b.n (stored_lines b h) (listed b.n r) w.all (listed_at b.n r k) inside i v, rows-length b.n r, sorted.few)

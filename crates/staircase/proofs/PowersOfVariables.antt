@@ -1,12 +1,12 @@
 -- Check 13: a leading monomial that is a power, for each variable.
---   power-in-iff     a power of v among the first monomials of an array, by places
+--   power-in-iff     a power of v among the monomials of a list, by places
 --   power-of-leads   the leading monomials have a power of each variable: the lines are zero-dimensional
 use mathlib.Core.Path.{◌≡◌, sym, ◌∙◌, ap}
 use mathlib.Core.List.{List, map}
 use mathlib.Core.Bool.{true}
 use mathlib.Core.Logic.Iff
 use mathlib.Core.Logic.{◌↔◌}
-use Prim.Native.Nat.{ℕ, ◌≤◌, ◌<◌}
+use Prim.Native.Nat.{ℕ, ◌<◌}
 use native.Mathlib.Omega.{arith}
 use lib.ListN.{length, get_or}
 use Rattle.lists.specs.Lists.{◌∈◌}
@@ -22,17 +22,15 @@ use Rattle.groebner.proofs.ZeroDimension.{zero-dimensional-tested}
 use Rattle.staircase.specs.Leads.{rows_of, PowerIn, Powers}
 use Rattle.staircase.proofs.ArrayRows.{no_monomial, rows-length, rows_at}
 
-pub power-in-iff : (n v count : ℕ) (ms : List Monomial) → count ≤ length ms
-    → PowerIn n v (rows_of n count ms) ↔ ((j : ℕ) × (j < count) × (is_power n v (row n (get_or ms j no_monomial)) ≡ true))
-power-in-iff n v count ms h = (
+pub power-in-iff : (n v : ℕ) (ms : List Monomial) → PowerIn n v (rows_of n ms) ↔ ((j : ℕ) × (j < length ms) × (is_power n v (row n (get_or ms j no_monomial)) ≡ true))
+power-in-iff n v ms = (
   λ p.
       let (j, l, e) = place_of (one n) p.1 in
-      let l' : j < count = omega (arith, rows-length n count ms h) in
-      (j, l', ap (is_power n v) (sym (rows_at n count ms j l') ∙ e) ∙ p.2),
+      (j, omega (arith, l, rows-length n ms), ap (is_power n v) (sym (rows_at n ms j) ∙ e) ∙ p.2),
   λ q. (
-    get_or (rows_of n count ms) q.0 (one n),
-    element-in (one n) (rows_of n count ms) q.0 (omega (arith, rows-length n count ms h, q.1)),
-    ap (is_power n v) (rows_at n count ms q.0 q.1) ∙ q.2,
+    get_or (rows_of n ms) q.0 (one n),
+    element-in (one n) (rows_of n ms) q.0 (omega (arith, rows-length n ms, q.1)),
+    ap (is_power n v) (rows_at n ms q.0) ∙ q.2,
   ),
 )
 

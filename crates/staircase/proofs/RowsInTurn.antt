@@ -1,15 +1,13 @@
--- The rows of exponents of an array that grows.
---   rows-store   a monomial that is stored behind the first ones adds its row
-use mathlib.Core.Path.{◌≡◌, ◌∙◌, ap}
-use mathlib.Core.List.{List, [], ◌∷◌, ◌++◌, map, map-append}
-use Prim.Native.Nat.{ℕ, suc, ◌<◌}
-use lib.ListN.{length, take, set}
-use lib.Seq.{take-suc-set}
+-- The rows of exponents of a list that grows.
+--   rows-push   a monomial that is pushed behind the others adds its row
+use mathlib.Core.Path.{◌≡◌}
+use mathlib.Core.List.{List, [], ◌∷◌, ◌++◌, map-append}
+use Prim.Native.Nat.{ℕ}
 use Rattle.monomial.specs.Represented.{row}
 use Rattle.monomial.specs.declared.Monomial.{Monomial}
 use Rattle.staircase.specs.Leads.{rows_of}
 
-module _ (n count : ℕ) (ms : List Monomial) where
-  pub rows-store : (m : Monomial) → count < length ms → rows_of n (suc count) (set ms count m) ≡ rows_of n count ms ++ (row n m ∷ [])
+module _ (n : ℕ) (ms : List Monomial) where
+  pub rows-push : (m : Monomial) → rows_of n (ms ++ (m ∷ [])) ≡ rows_of n ms ++ (row n m ∷ [])
   unfolding rows_of
-  rows-store m h = ap (map (row n)) (take-suc-set ms count m h) ∙ map-append (row n) (take count ms) (m ∷ [])
+  rows-push m = map-append (row n) ms (m ∷ [])

@@ -49,23 +49,23 @@ module _ (s : Shape) (ts cs es : List ℕ) where
   unfolding first_read
   held_first k h = ap (λ g. get_or g.monomials 0 no_monomial) (held-line k h) ∙ lead-there ts cs es k no_monomial
 
-  module _ (sound : Sound b) (count : ℕ) (ms : List Monomial) (leads : LeadsIn es s.lines count ms) (full : count ≤ length ms) where
-    upto : (h : 1 < s.p) (k : ℕ) → k ≤ s.lines → rows_of s.n k ms ≡ map (λ g. g.0) (take k (stored_lines b h))
+  module _ (sound : Sound b) (ms : List Monomial) (leads : LeadsIn es s.lines ms) where
+    upto : (h : 1 < s.p) (k : ℕ) → k ≤ s.lines → rows_of s.n (take k ms) ≡ map (λ g. g.0) (take k (stored_lines b h))
     unfolding rows_of
     upto h zero l = refl
     upto h (suc k) l =
         let d : Line (ZMod s.p) (Row s.n) = (one s.n, []) in
-        ap (map (row s.n)) (take-suc ms k no_monomial (omega (arith, full, leads.0, l))) ∙ map-append (row s.n) (take k ms) (get_or ms k no_monomial ∷ [])
+        ap (map (row s.n)) (take-suc ms k no_monomial (omega (arith, leads.0, l))) ∙ map-append (row s.n) (take k ms) (get_or ms k no_monomial ∷ [])
         ∙ ap₂ ◌++◌ (upto h k (omega (arith, l)))
         (ap (λ a. row s.n a ∷ []) (leads.1 k (omega (arith, l)) ∙ sym (held_first k (omega (arith, l, sound.few))))
         ∙ ap (λ a. a ∷ []) (sym (lines-lead b h sound k (omega (arith, l)))))
         ∙ sym (ap (map (λ g. g.0)) (take-suc (stored_lines b h) k d (omega (arith, l, stored-lines-length b h (held-filled sound).lines)))
         ∙ map-append (λ g. g.0) (take k (stored_lines b h)) (get_or (stored_lines b h) k d ∷ []))
 
-    pub held-leads : LeadsOf b count ms
+    pub held-leads : LeadsOf b ms
     held-leads = (
       leads.0,
       λ h.
-          let all = take_all s.lines (stored_lines b h) (omega (arith, stored-lines-length b h (held-filled sound).lines)) in
-          rw leads.0 (upto h s.lines (omega arith) ∙ ap (map (λ g. g.0)) all),
+          ap (rows_of s.n) (sym (take_all s.lines ms (omega (arith, leads.0)))) ∙ upto h s.lines (omega arith)
+          ∙ ap (map (λ g. g.0)) (take_all s.lines (stored_lines b h) (omega (arith, stored-lines-length b h (held-filled sound).lines))),
     )

@@ -1,15 +1,15 @@
 -- Inner contracts. Lists of leading monomials, their multiples, and what is next in lex among the others.
---   rows_of n count ms          the first monomials of an array, as rows of n exponents
---   lead_monomials n leads      the leading monomials that a value of the code has
---   LeadsIn es lines count ms   the first monomials of an array are the leading monomials of the lines of the arrays of a basis
---   LeadsOf b count ms          the first monomials of an array are the leading monomials of a basis
---   multiple n L m              whether a monomial of L divides m
---   PowerIn n v L               a monomial of L is a power of variable v
---   Powers n L                  L has a power of each variable
---   NextIs                      the next monomial in lex that is not excluded, or that there is none
---   FoundNext                   so it is, as the code answers: no exponent is raised by more than one
---   CountIs                     all monomials that are not excluded, in rising lex order, or that there are more than `most`
-use Rattle.std.specs.Prelude.{ℕ, suc, ◌*◌, ◌≤◌, ◌<◌, ◌≡◌, Bool, true, false, List, [], ◌∷◌, map, get_or, take}
+--   rows_of n ms             the monomials of a list of the code, as rows of n exponents
+--   lead_monomials n leads   the leading monomials that a list of the code has
+--   LeadsIn es lines ms      the list has the leading monomials of the lines of the arrays of a basis
+--   LeadsOf b ms             the list has the leading monomials of a basis
+--   multiple n L m           whether a monomial of L divides m
+--   PowerIn n v L            a monomial of L is a power of variable v
+--   Powers n L               L has a power of each variable
+--   NextIs                   the next monomial in lex that is not excluded, or that there is none
+--   FoundNext                so it is, as the code answers: no exponent is raised by more than one
+--   CountIs                  all monomials that are not excluded, in rising lex order, or that there are more than `most`
+use Rattle.std.specs.Prelude.{ℕ, suc, ◌*◌, ◌≤◌, ◌<◌, ◌≡◌, Bool, true, false, List, [], ◌∷◌, map, length, get_or, Option, Some, None, option_map, IfSome}
 use Rattle.std.proofs.Math.Option.{none, some}
 use Rattle.lists.specs.Lists.{◌∈◌}
 use Rattle.monomial.specs.Rows.{Row, exponent}
@@ -21,24 +21,23 @@ use Rattle.lines.specs.Sizes.{most_terms}
 use Rattle.lines.specs.Stored.{monomial_in}
 use Rattle.lines.specs.Bases.{StoredBasis, Padded}
 use Rattle.staircase.specs.StoredLines.{stored_lines}
-use Rattle.staircase.specs.declared.leads.Leads.{Leads}
 
--- The first monomials of an array.
-unfoldable pub rows_of : (n : ℕ) → ℕ → List Monomial → List (Row n)
+-- The monomials of a list of the code, as rows of n exponents.
+unfoldable pub rows_of : (n : ℕ) → List Monomial → List (Row n)
 unfolding row
-rows_of n count ms = map (row n) (take count ms)
+rows_of n ms = map (row n) ms
 
--- The leading monomials that a value of the code has.
-abbrev pub lead_monomials : (n : ℕ) → Leads → List (Row n)
-lead_monomials n leads = rows_of n leads.count leads.monomials
+-- The leading monomials that a list of the code has.
+abbrev pub lead_monomials : (n : ℕ) → List Monomial → List (Row n)
+lead_monomials n leads = rows_of n leads
 
--- The first monomials of an array are the leading monomials of the first lines that the array es of exponents has.
-abbrev pub LeadsIn : List ℕ → ℕ → ℕ → List Monomial → Type 0
-LeadsIn es lines count ms = (count ≡ lines) × ((k : ℕ) → k < lines → get_or ms k (record { e = [] }) ≡ monomial_in es (k * most_terms))
+-- The list has the leading monomials of the first lines that the array es of exponents has.
+abbrev pub LeadsIn : List ℕ → ℕ → List Monomial → Type 0
+LeadsIn es lines ms = (length ms ≡ lines) × ((k : ℕ) → k < lines → get_or ms k (record { e = [] }) ≡ monomial_in es (k * most_terms))
 
--- The first monomials of an array are the leading monomials of a basis, line by line.
-abbrev pub LeadsOf : StoredBasis → ℕ → List Monomial → Type 0
-LeadsOf b count ms = (count ≡ b.lines) × ((h : 1 < b.p) → rows_of b.n count ms ≡ map (λ g. g.0) (stored_lines b h))
+-- The list has the leading monomials of a basis, line by line.
+abbrev pub LeadsOf : StoredBasis → List Monomial → Type 0
+LeadsOf b ms = (length ms ≡ b.lines) × ((h : 1 < b.p) → rows_of b.n ms ≡ map (λ g. g.0) (stored_lines b h))
 
 -- Whether a monomial of L divides m.
 unfoldable pub multiple : (n : ℕ) → List (Row n) → Row n → Bool
@@ -55,17 +54,17 @@ abbrev pub Powers : (n : ℕ) → List (Row n) → Type 0
 Powers n L = (v : ℕ) → v < n → PowerIn n v L
 
 -- The answer of the search for the next monomial that is not excluded: what `next` of the theory says.
-abbrev pub NextIs : (n : ℕ) → List ℕ → (Row n → Bool) → Row n → Bool → Row n → Type 0
-NextIs n s excluded m true r = next n s excluded m ≡ some r
-NextIs n s excluded m false r = next n s excluded m ≡ none
+abbrev pub NextIs : (n : ℕ) → List ℕ → (Row n → Bool) → Row n → Option (Row n) → Type 0
+NextIs n s excluded m (Some r) = next n s excluded m ≡ some r
+NextIs n s excluded m None = next n s excluded m ≡ none
 
 -- The same of the code's answer.
-pub record FoundNext (n : ℕ) (s : List ℕ) (excluded : Row n → Bool) (m : Row n) (found : Bool) (r : Monomial) : Type 0 where
-  pub is_next : NextIs n s excluded m found (row n r)
-  pub padded : Padded n r
-  pub raised : (i : ℕ) → i < n → exponent n (row n r) i ≤ suc (exponent n m i)
+pub record FoundNext (n : ℕ) (s : List ℕ) (excluded : Row n → Bool) (m : Row n) (r : Option Monomial) : Type 0 where
+  pub is_next : NextIs n s excluded m (option_map (row n) r)
+  pub padded : IfSome r (Padded n)
+  pub raised : IfSome r (λ v. (i : ℕ) → i < n → exponent n (row n v) i ≤ suc (exponent n m i))
 
 -- The answer of the count of those that are not excluded, in rising lex order: all of them, at most that many, or that there are more.
-abbrev pub CountIs : (n : ℕ) → List ℕ → (Row n → Bool) → ℕ → Bool → List (Row n) → Type 0
-CountIs n s excluded most false l = irreducibles n (next n s) excluded most ≡ some l
-CountIs n s excluded most true l = irreducibles n (next n s) excluded most ≡ none
+abbrev pub CountIs : (n : ℕ) → List ℕ → (Row n → Bool) → ℕ → Option (List (Row n)) → Type 0
+CountIs n s excluded most (Some l) = irreducibles n (next n s) excluded most ≡ some l
+CountIs n s excluded most None = irreducibles n (next n s) excluded most ≡ none

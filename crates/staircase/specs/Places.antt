@@ -1,8 +1,8 @@
 -- Inner contracts. Check 12 by the places of the arrays: places count from 0, and line k of the text stands at place k - 2.
 --   DividesTerm n d g          d divides a monomial of the line g
 --   DividedByAnother n i L g   a monomial of the line g is divisible by a monomial of L at another place than i
---   FirstDivided b r           r is the smallest line of b of which check 12 speaks, or 0
-use Rattle.std.specs.Prelude.{ℕ, ◌<◌, ◌≡◌, List, get_or, length}
+--   FirstDivided b r           r is the smallest line of b of which check 12 speaks, if there is one
+use Rattle.std.specs.Prelude.{ℕ, ◌<◌, ◌≡◌, List, get_or, length, Option}
 use Rattle.residue.specs.Field.{modulo}
 use Rattle.monomial.specs.Rows.{Row, one}
 use Rattle.monomial.specs.Ordering.{Divides, monomials}
@@ -22,6 +22,6 @@ DividesTerm n d g = (k : ℕ) × (k < g.terms) × Divides (monomials n) d (row n
 abbrev pub DividedByAnother : (n i : ℕ) → List (Row n) → Generator → Type 0
 DividedByAnother n i L g = (j : ℕ) × (j < length L) × (¬ (j ≡ i)) × DividesTerm n (get_or L j (one n)) g
 
--- The smallest line of a basis that has such a monomial; 0 if there is none.
-abbrev pub FirstDivided : StoredBasis → ℕ → Type 0
+-- The smallest line of a basis that has such a monomial, if there is one.
+abbrev pub FirstDivided : StoredBasis → Option ℕ → Type 0
 FirstDivided b r = (h : 1 < b.p) → Smallest (Divided (modulo b.p h) (monomials b.n) (stored_lines b h)) r

@@ -2,13 +2,12 @@
 ghost use Rattle.std.specs.Prelude.{◌≡◌, true, ◌↔◌, ◌≤◌};
 ghost use Rattle.monomial.specs.Sizes.{most_variables};
 ghost use Rattle.monomial.specs.Represented.{row};
-ghost use Rattle.lines.specs.Sizes.{most_terms, most_lines};
+ghost use Rattle.lines.specs.Sizes.{most_terms};
 ghost use Rattle.lines.specs.Bases.{basis_in, Stored};
 ghost use Rattle.staircase.specs.Leads.{lead_monomials, LeadsOf};
 ghost use Rattle.staircase.specs.Places.{DividesTerm, DividedByAnother, FirstDivided};
 ghost use Rattle.staircase.specs.Sound.{Sound};
 
-use crate::leads::Leads;
 use lines::Shape;
 use lines::line::Generator;
 use lines::store::line_at;
@@ -23,35 +22,35 @@ fn divides_term(d: Monomial, g: Generator, n: usize) -> bool
 }
 
 // Whether the leading monomial of a line other than line i divides a monomial of g.
-fn divided_by_another(g: Generator, i: usize, leads: Leads, n: usize) -> bool
-    requires { (g.terms ≤ most_terms) × (leads.count ≤ most_lines) × (n ≤ most_variables) }
-    ensures { (result ≡ true) ↔ DividedByAnother n i (lead_monomials n leads) g }
+fn divided_by_another(g: Generator, i: usize, leads: &[Monomial], n: usize) -> bool
+    requires { (g.terms ≤ most_terms) × (n ≤ most_variables) }
+    ensures { (result ≡ true) ↔ DividedByAnother n i (lead_monomials n leads.now) g }
 {
-    for j in 0..leads.count {
+    for (j, d) in leads.iter().enumerate() {
         let other = j != i;
-        if other && divides_term(leads.monomials[j], g, n) {
+        if other && divides_term(*d, g, n) {
             return true;
         }
     }
     false
 }
 
-// The number of that line; 0 if there is none.
+// The number of that line, if there is one.
 pub fn first_divided(
     counts: &[usize],
     coefficients: &[u16],
     exponents: &[u8],
     shape: Shape,
-    leads: Leads,
-) -> usize
-    requires { Stored shape counts.now coefficients.now exponents.now (λ b. Sound b × LeadsOf b leads.count leads.monomials) }
+    leads: &[Monomial],
+) -> Option<usize>
+    requires { Stored shape counts.now coefficients.now exponents.now (λ b. Sound b × LeadsOf b leads.now) }
     ensures { FirstDivided (basis_in shape counts.now coefficients.now exponents.now) result }
 {
     for i in 0..shape.lines {
         let g = line_at(counts, coefficients, exponents, i);
         if divided_by_another(g, i, leads, shape.n) {
-            return i + 2;
+            return Some(i + 2);
         }
     }
-    0
+    None
 }
