@@ -1,20 +1,20 @@
 -- The laws of the crate `staircase`.
 -- Places:
---   ArrayRows           the rows of exponents that arrays of monomials hold
---   RowsInTurn          the rows of an array of monomials that grows
+--   ArrayRows           the rows of exponents that lists of monomials hold
+--   RowsInTurn          the rows of a list of monomials that grows
 --   LineElements        the lines of a basis of the code, by their places
 --   LineLeads           their leading monomials
 --   StoredBasis         the lines of a basis that stand in arrays
 -- The loops:
---   FirstElements       a search among the first elements of an array, and a test of all numbers below n
---   Multiples           the search for a monomial of an array that divides another one
+--   FirstElements       a search among the elements of a list, and a test of all numbers below n
+--   Multiples           the search for a monomial of a list that divides another one
 --   PaddedRows          values of the code that hold a row of n exponents
 --   ChangedExponents    values of the code with one exponent changed
 --   Carries             the next monomial that is not excluded, sought from the last variable on
 --   Collecting          all monomials that are not excluded, stored in rising order
 --   RisingPlaces        the places of a rising list
+--   PlacesInLists       the places of monomials in lists
 --   RankedLists         the ranks of lists of monomials
---   Selecting           the smallest elements of a list, in rising order
 --   Sorting             the loop of `by_grevlex`
 --   SortedLists         what a sorted list has of the list that it was made of
 -- The checks:
@@ -41,8 +41,8 @@ pub mod ChangedExponents
 pub mod Carries
 pub mod Collecting
 pub mod RisingPlaces
+pub mod PlacesInLists
 pub mod RankedLists
-pub mod Selecting
 pub mod Sorting
 pub mod SortedLists
 pub mod SoundLines

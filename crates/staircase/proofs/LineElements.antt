@@ -35,7 +35,7 @@ use Rattle.staircase.specs.TermLines.{line_of, lines_of}
 use Rattle.staircase.specs.StoredLines.{stored_lines}
 use Rattle.staircase.specs.Sound.{coefficient_at, monomial_at, generator_at, SoundLine}
 use Rattle.staircase.specs.Leads.{rows_of}
-use Rattle.staircase.proofs.ArrayRows.{row_at, rows-length, rows_at}
+use Rattle.staircase.proofs.ArrayRows.{no_monomial, row_at, rows-length, rows_at}
 
 -- The arrays of a basis have its lines and the coefficients and monomials of their terms.
 pub record WithinArrays (b : StoredBasis) : Type 0 where
@@ -73,7 +73,7 @@ rows-of-terms n (suc k) (c ∷ cs) (m ∷ ms) h = λ i. as_row-exponents n m i �
 pub terms-length : (n : ℕ) (g : Generator) → g.terms ≤ length g.coefficients → g.terms ≤ length g.monomials → length (terms_in n g) ≡ g.terms
 unfolding terms_in rows_of
 terms-length n g c m = sym (length-map (terms_in n g) (λ (u : Term). as_row n u.1))
-    ∙ ap length (rows-of-terms n g.terms g.coefficients g.monomials c) ∙ rows-length n g.terms g.monomials m
+    ∙ ap length (rows-of-terms n g.terms g.coefficients g.monomials c) ∙ rows-length n (take g.terms g.monomials) ∙ length-take-le g.terms g.monomials m
 
 -- A generator whose coefficients are not 0 has them in its array.
 pub enough-coefficients : (p n : ℕ) (g : Generator) → SoundLine p n g → g.terms ≤ length g.coefficients
@@ -92,19 +92,27 @@ module _ (p : ℕ) (h : 1 < p) (n : ℕ) where
   monomials-of-terms (t ∷ ts) l = ap (λ r. as_row n t.1 ∷ r) (map-map _ _ ts)
 
   module _ (g : Generator) (s : SoundLine p n g) (filled : g.terms ≤ length g.monomials) where
-    pub line-monomials : map (λ t. t.1) (polynomial (modulo p h) (line_of p h n (terms_in n g))) ≡ rows_of n g.terms g.monomials
+    pub line-monomials : map (λ t. t.1) (polynomial (modulo p h) (line_of p h n (terms_in n g))) ≡ rows_of n (take g.terms g.monomials)
     unfolding rows_of terms_in
     line-monomials =
         monomials-of-terms (terms_in n g) (omega (arith, s.some, terms-length n g (enough-coefficients p n g s) filled))
         ∙ rows-of-terms n g.terms g.coefficients g.monomials (enough-coefficients p n g s)
 
+    abbrev first : List Monomial
+    first = take g.terms g.monomials
+
+    first-length : length (rows_of n first) ≡ g.terms
+    first-length = rows-length n first ∙ length-take-le g.terms g.monomials filled
+
+    first-at : (k : ℕ) → k < g.terms → get_or (rows_of n first) k (one n) ≡ row n (monomial_at g k)
+    first-at k l = rows_at n first k ∙ ap (row n) (get_or-take g.terms g.monomials k no_monomial l) ∙ sym (row_at n g k)
+
     pub line-monomials-at : (m : Row n) → m ∈ map (λ t. t.1) (polynomial (modulo p h) (line_of p h n (terms_in n g))) ↔ ((k : ℕ) × (k < g.terms) × (m ≡ row n (monomial_at g k)))
     line-monomials-at m = (
       λ q.
           let (k, l, e) = place_of (one n) (subst (λ (x : List (Row n)). m ∈ x) line-monomials q) in
-          let l' : k < g.terms = omega (arith, rows-length n g.terms g.monomials filled) in
-          (k, l', sym e ∙ rows_at n g.terms g.monomials k l' ∙ sym (row_at n g k)),
+          let l' : k < g.terms = omega (arith, first-length) in
+          (k, l', sym e ∙ first-at k l'),
       λ (k, l, e). subst (λ (x : List (Row n)). m ∈ x) (sym line-monomials)
-          (Memᴰ.cast (e ∙ row_at n g k ∙ sym (rows_at n g.terms g.monomials k l))
-          (element-in (one n) (rows_of n g.terms g.monomials) k (omega (arith, rows-length n g.terms g.monomials filled)))),
+          (Memᴰ.cast (e ∙ sym (first-at k l)) (element-in (one n) (rows_of n first) k (omega (arith, first-length)))),
     )

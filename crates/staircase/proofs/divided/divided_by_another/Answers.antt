@@ -1,37 +1,25 @@
 -- `divided_by_another` meets its contract. The loop's invariant: none of the first j, but at place i, divides a monomial of the line.
-use mathlib.Core.Path.{◌≡◌}
 use mathlib.Core.Logic.Iff
 use native.Mathlib.Omega.{arith}
 use borrow.Author.Count.{below_more}
-use borrow.Author.Rules.{rules}
-use lib.ListN.{length}
-use Rattle.lists.proofs.Elements.{length-mapped}
 use Rattle.lists.proofs.Testing.{sought-found, sought-all, denied}
-use Rattle.lines.specs.Sizes.{most_lines}
 use Rattle.staircase.proofs.DividedPlaces.{divided-by-another-iff}
 use Rattle.staircase.proofs.divided.divided_by_another.Goals.{else-other-via-then-other+else-divides_term, else-other-via-else-other}
 use Rattle.staircase.proofs.divided.divided_by_another.Goals as goal
 
 pub loop-j-init : goal.loop-j-init
-loop-j-init c =
-    let f : length c.args.leads.monomials ≡ most_lines = search (length-mapped, rules) in
-    (omega arith, λ k h. absurd (omega arith))
+loop-j-init c = λ k h. absurd (omega arith)
 
 pub returns-then-divides_term : goal.returns-then-divides_term
 returns-then-divides_term c =
     Iff.trans (sought-found c.loop-j.j (omega arith) (c.if-other.true, c.divides_term.ensures.0 c.if-divides_term.true))
-    (Iff.symm (divided-by-another-iff _ _ _ _ _ c.loop-j.invariant.0))
+    (Iff.symm (divided-by-another-iff _ _ _ _))
 
 pub loop-j-preserved : goal.loop-j-preserved
-loop-j-preserved c = (
-  c.loop-j.invariant.0,
-  below_more _ _ c.loop-j.invariant.1 (elim c.else-other.branch [
-    | else-other-via-then-other+else-divides_term w ↦ λ (d, t). denied w.divides_term.ensures w.if-divides_term.false t
-    | else-other-via-else-other w ↦ λ (d, t). d w.if-other.false
-  ]),
-)
+loop-j-preserved c = below_more _ _ c.loop-j.invariant (elim c.else-other.branch [
+  | else-other-via-then-other+else-divides_term w ↦ λ (d, t). denied w.divides_term.ensures w.if-divides_term.false t
+  | else-other-via-else-other w ↦ λ (d, t). d w.if-other.false
+])
 
 pub returns : goal.returns
-returns c =
-    let l = c.loop-j in
-    Iff.trans (sought-all l.j (omega arith) l.invariant.1) (Iff.symm (divided-by-another-iff _ _ _ _ _ l.invariant.0))
+returns c = Iff.trans (sought-all c.loop-j.j (omega arith) c.loop-j.invariant) (Iff.symm (divided-by-another-iff _ _ _ _))

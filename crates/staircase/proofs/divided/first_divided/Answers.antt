@@ -34,12 +34,11 @@ read c = c.line_at-g.ensures ∙ sym (held-line _ _ _ _ c.loop-i.i (omega (arith
 
 -- Another line's leading monomial divides one of g, which stands at the line's place.
 abbrev Says : (c : After-line_at-g) → Generator → Type 0
-Says c = let a = c.args in DividedByAnother a.shape.n c.loop-i.i (lead_monomials a.shape.n a.leads)
+Says c = let a = c.args in DividedByAnother a.shape.n c.loop-i.i (lead_monomials a.shape.n a.leads.now)
 
 pub divided_by_another-requires : goal.divided_by_another-requires
 divided_by_another-requires c = (
   subst (λ (g : Generator). g.terms ≤ _) (sym (read c)) ((sound (goal.at.divided_by_another-requires c).At-loop-i).lines c.loop-i.i (omega arith)).few,
-  omega (arith, (sound (goal.at.divided_by_another-requires c).At-loop-i).few, c.requires.basis.1.0),
   (sound (goal.at.divided_by_another-requires c).At-loop-i).variables.most,
 )
 
@@ -49,7 +48,7 @@ overflow_add-result c = omega (arith, (sound (goal.at.overflow_add-result c).At-
 -- What check 12 says of a line of the basis.
 pub returns-then-divided_by_another : goal.returns-then-divided_by_another
 returns-then-divided_by_another c h =
-    smallest-found (divided-of-basis (lent (goal.at.returns-then-divided_by_another c).At-loop-i) (sound (goal.at.returns-then-divided_by_another c).At-loop-i) (held-filled _ _ _ _ (sound (goal.at.returns-then-divided_by_another c).At-loop-i)) _ _ c.requires.basis.1 h) c.loop-i.i (omega arith)
+    smallest-found (divided-of-basis (lent (goal.at.returns-then-divided_by_another c).At-loop-i) (sound (goal.at.returns-then-divided_by_another c).At-loop-i) (held-filled _ _ _ _ (sound (goal.at.returns-then-divided_by_another c).At-loop-i)) _ c.requires.basis.1 h) c.loop-i.i (omega arith)
     (subst (Says (goal.at.returns-then-divided_by_another c).After-line_at-g) (read (goal.at.returns-then-divided_by_another c).After-line_at-g) (c.divided_by_another.ensures.0 c.if-divided_by_another.true)) c.loop-i.invariant
 
 pub loop-i-preserved : goal.loop-i-preserved
@@ -59,5 +58,5 @@ loop-i-preserved c =
 
 pub returns : goal.returns
 returns c h =
-    smallest-none (divided-of-basis (lent (goal.at.returns c).At-loop-i) (sound (goal.at.returns c).At-loop-i) (held-filled _ _ _ _ (sound (goal.at.returns c).At-loop-i)) _ _ c.requires.basis.1 h)
+    smallest-none (divided-of-basis (lent (goal.at.returns c).At-loop-i) (sound (goal.at.returns c).At-loop-i) (held-filled _ _ _ _ (sound (goal.at.returns c).At-loop-i)) _ c.requires.basis.1 h)
     (λ k l. c.loop-i.invariant k (omega arith))

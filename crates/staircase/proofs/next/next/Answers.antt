@@ -10,7 +10,7 @@ use Rattle.staircase.proofs.next.next.Goals as goal
 pub loop-i-init : goal.loop-i-init
 loop-i-init c =
     let l : length c.args.ranking.variables ≡ most_variables = search rules in
-    clear-nothing c.args.m (omega arith) c.requires.2 c.requires.3
+    clear-nothing c.args.m (omega arith) c.requires.1 c.requires.2
 
 -- The variable is one of the n, as `variable-within` says.
 pub bounds-r-v : goal.bounds-r-v
@@ -18,7 +18,7 @@ bounds-r-v c = omega (arith, variable-within c.loop-i.invariant (omega arith))
 
 pub overflow_add-r : goal.overflow_add-r
 overflow_add-r c =
-    omega (arith, variable-exponent c.loop-i.invariant (omega arith), c.requires.4 _ (variable-within c.loop-i.invariant (omega arith)))
+    omega (arith, variable-exponent c.loop-i.invariant (omega arith), c.requires.3 _ (variable-within c.loop-i.invariant (omega arith)))
 
 pub bounds-r-v-in-loop-i : goal.bounds-r-v-in-loop-i
 bounds-r-v-in-loop-i c = omega (arith, variable-within c.loop-i.invariant (omega arith))

@@ -1,9 +1,0 @@
--- `put_lead_ranks` meets its contract. The loop's invariant: the first k ranks are stored.
-use lib.ListN.{get_or}
-use Rattle.monomial.specs.Represented.{row}
-use Rattle.monomial.proofs.RankPlaces.{RanksStored}
-use Rattle.staircase.proofs.ArrayRows.{no_monomial}
-use Rattle.staircase.proofs.ranks.put_lead_ranks.Given as goal
-
-abbrev pub invariant-loop-k : goal.invariant-loop-k
-invariant-loop-k l = RanksStored l.n (λ j. row l.n (get_or l.leads.monomials j no_monomial)) l.leads.count l.initial.ranks l.ranks l.k
