@@ -5,6 +5,7 @@
 --   NextSays reader s at r     the answer of a reader that keeps nothing but the place after what it read
 --   RowSays n sep s at r       the answer of the reader of exponents: the first n numbers of the row; those past n are free
 --   TermSays n s at r          the answer of the term reader: the coefficient and the row; likewise
+--   FieldsSay field s at r     the answer of the reader of fields up to LF, by what is said of each
 --   WordAt w s at              the word w stands at the place
 --   WordSays w s at b          the answer whether it does
 --   kind_of at i l             the kind and the data of the line l that stands from `at` up to i, its LF included
@@ -14,7 +15,7 @@
 use Rattle.std.specs.Prelude.{ℕ, ◌+◌, ◌-◌, ◌≤◌, ◌<◌, ◌≡◌, List, Bool, true, false, Option, Some, None, length, take, drop}
 use Rattle.lists.specs.Lists.{Bytes}
 use Rattle.tabtext.specs.Text.{TextLine, header, generator, standard, points, end}
-use Rattle.tabtext.specs.Readers.{Got, got, bad, Reader, digit, read_row, read_term, read_word, read_line}
+use Rattle.tabtext.specs.Readers.{Got, got, bad, Reader, digit, starts_with, read_byte, read_row, read_term, read_word, read_line}
 use Rattle.tabtext.specs.declared.terms.RawTerm.{RawTerm}
 use Rattle.tabtext.specs.declared.record.Kind.{Kind}
 use Rattle.tabtext.specs.declared.record.Kind.TheVariants as kind-variants
@@ -50,6 +51,12 @@ RowSays n sep s at None = read_row n sep (drop at s) ≡ bad
 abbrev pub TermSays : ℕ → Bytes → ℕ → Option (RawTerm × ℕ) → Type 0
 TermSays n s at (Some (t, i)) = Reading (read_term n) s at (t.coefficient, take n t.row) i
 TermSays n s at None = read_term n (drop at s) ≡ bad
+
+-- Fields stand from the place on up to LF, each with a tab before it, where `field` says of a place what stands there.
+pub data FieldsSay (field : ℕ → Option ℕ → Type 0) (s : Bytes) : ℕ → Option ℕ → Type 0 where
+  stops : {i : ℕ} {r : Option ℕ} → starts_with 9 (drop i s) ≡ false → NextSays (read_byte 10) s i r → FieldsSay field s i r
+  fails : {i : ℕ} → starts_with 9 (drop i s) ≡ true → field i None → FieldsSay field s i None
+  goes-on : {i j : ℕ} {r : Option ℕ} → starts_with 9 (drop i s) ≡ true → field i (Some j) → FieldsSay field s j r → FieldsSay field s i r
 
 -- The word w stands at the place.
 pub record WordAt (w s : Bytes) (at : ℕ) : Type 0 where

@@ -1,8 +1,8 @@
 // Bytes, rows of exponents and terms, read at a place of a text. Each reader gives the place after what it read.
-ghost use Rattle.std.specs.Prelude.{◌≡◌, ◌≤◌, drop};
+ghost use Rattle.std.specs.Prelude.{◌≡◌, ℕ, ◌+◌, ◌<◌, ◌≤◌, true, Some, length, drop};
 ghost use Rattle.monomial.specs.Sizes.{most_variables};
-ghost use Rattle.tabtext.specs.Readers.{starts_with, read_byte, read_field, read_exponent, read_terms, read_rows};
-ghost use Rattle.tabtext.specs.Answers.{NumberSays, NextSays, RowSays, TermSays};
+ghost use Rattle.tabtext.specs.Readers.{starts_with, read_byte, read_field, read_exponent, read_row, read_term, read_terms, read_rows};
+ghost use Rattle.tabtext.specs.Answers.{NumberSays, NextSays, RowSays, TermSays, FieldsSay};
 
 use crate::number::read_number;
 use monomial::MAX_VARIABLES;
@@ -81,17 +81,32 @@ pub fn read_term(text: &[u8], at: usize, n: usize) -> Option<(RawTerm, usize)>
     Some((RawTerm { coefficient, row }, next))
 }
 
+// Fields, a tab before each, up to LF. The closure reads the field at a place, with its tab.
+fn read_fields<F: Fn(usize) -> Option<usize>>(text: &[u8], at: usize, field: F) -> Option<usize>
+    requires reads { (i : ℕ) → starts_with 9 (drop i text.now) ≡ true → F.pre field i }
+    requires advances { (i j : ℕ) → F.post field i (Some j) → (i < j) × (j ≤ length text.now) }
+    ensures { FieldsSay (λ i r. F.post field i r) text.now at result }
+{
+    let mut i = at;
+    while byte_is(text, i, b'\t') {
+        i = field(i)?;
+    }
+    read_byte(text, i, b'\n')
+}
+
 // Terms, a tab before each, up to LF.
 pub fn read_terms(text: &[u8], at: usize, n: usize) -> Option<usize>
     requires { n ≤ most_variables }
     ensures { NextSays (read_terms n) text.now at result }
 {
-    let mut i = at;
-    while byte_is(text, i, b'\t') {
+    let term = |i|
+        requires { (n ≤ most_variables) × (starts_with 9 (drop i text.now) ≡ true) }
+        ensures { NextSays (read_term n) text.entry.now (i + 1) result }
+    {
         let (_, next) = read_term(text, i + 1, n)?;
-        i = next;
-    }
-    read_byte(text, i, b'\n')
+        Some(next)
+    };
+    read_fields(text, at, term)
 }
 
 // Rows of n exponents, a tab before each, up to LF.
@@ -99,10 +114,12 @@ pub fn read_rows(text: &[u8], at: usize, n: usize) -> Option<usize>
     requires { n ≤ most_variables }
     ensures { NextSays (read_rows n) text.now at result }
 {
-    let mut i = at;
-    while byte_is(text, i, b'\t') {
+    let row = |i|
+        requires { n ≤ most_variables }
+        ensures { NextSays (read_row n 9) text.entry.now i result }
+    {
         let (_, next) = read_exponents(text, i, n, b'\t')?;
-        i = next;
-    }
-    read_byte(text, i, b'\n')
+        Some(next)
+    };
+    read_fields(text, at, row)
 }
