@@ -7,6 +7,8 @@
 --   enough-coefficients a sound generator has its coefficients in its array
 --   terms-length          a generator whose arrays have its terms has as many as it says
 --   line-monomials        the monomials of the line that a sound generator makes are the first of its array
+--   first-length          these are as many as it has terms
+--   first-at              the one at place k
 --   line-monomials-at     they are the rows of its monomials at the places below `terms`
 use mathlib.Core.Path.{◌≡◌, refl, sym, ◌∙◌, ap, subst}
 use mathlib.Core.List.Memᴰ
@@ -101,10 +103,10 @@ module _ (p : ℕ) (h : 1 < p) (n : ℕ) where
     abbrev first : List Monomial
     first = take g.terms g.monomials
 
-    first-length : length (rows_of n first) ≡ g.terms
+    pub first-length : length (rows_of n first) ≡ g.terms
     first-length = rows-length n first ∙ length-take-le g.terms g.monomials filled
 
-    first-at : (k : ℕ) → k < g.terms → get_or (rows_of n first) k (one n) ≡ row n (monomial_at g k)
+    pub first-at : (k : ℕ) → k < g.terms → get_or (rows_of n first) k (one n) ≡ row n (monomial_at g k)
     first-at k l = rows_at n first k ∙ ap (row n) (get_or-take g.terms g.monomials k no_monomial l) ∙ sym (row_at n g k)
 
     pub line-monomials-at : (m : Row n) → m ∈ map (λ t. t.1) (polynomial (modulo p h) (line_of p h n (terms_in n g))) ↔ ((k : ℕ) × (k < g.terms) × (m ≡ row n (monomial_at g k)))

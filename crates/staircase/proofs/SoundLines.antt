@@ -33,8 +33,7 @@ use Rattle.lines.specs.declared.line.Generator.{Generator}
 use Rattle.staircase.specs.TermLines.{line_of}
 use Rattle.staircase.specs.StoredLines.{stored_lines}
 use Rattle.staircase.specs.Sound.{coefficient_at, monomial_at, generator_at, SoundLine, Sound}
-use Rattle.staircase.proofs.ArrayRows.{row_at, rows-length, rows_at}
-use Rattle.staircase.proofs.LineElements.{WithinArrays, stored-lines-length, line-at, line-monomials}
+use Rattle.staircase.proofs.LineElements.{WithinArrays, stored-lines-length, line-at, line-monomials, first-length, first-at}
 
 module _ {F M : Type 0} {𝓜 : Monomials M} {lt : M → M → Type 0} (ord : MonomialOrder 𝓜 lt) where
   pub falling-of-steps : (d : M) (f : Poly F M) → ((k : ℕ) → suc k < length f → lt (get_or (map (λ t. t.1) f) (suc k) d) (get_or (map (λ t. t.1) f) k d)) → Falling lt f
@@ -83,10 +82,10 @@ module _ (p : ℕ) (h : 1 < p) (n : ℕ) where
     line = line_of p h n (terms_in n g)
 
     monomial-at : (k : ℕ) → k < g.terms → get_or (map (λ t. t.1) (polynomial (modulo p h) line)) k (one n) ≡ row n (monomial_at g k)
-    monomial-at k l = ap (λ (x : List (Row n)). get_or x k (one n)) (line-monomials p h n g s filled) ∙ rows_at n g.terms g.monomials k l ∙ sym (row_at n g k)
+    monomial-at k l = ap (λ (x : List (Row n)). get_or x k (one n)) (line-monomials p h n g s filled) ∙ first-at p h n g s filled k l
 
     many : length (polynomial (modulo p h) line) ≡ g.terms
-    many = sym (length-map (polynomial (modulo p h) line) (λ t. t.1)) ∙ ap length (line-monomials p h n g s filled) ∙ rows-length n g.terms g.monomials filled
+    many = sym (length-map (polynomial (modulo p h) line) (λ t. t.1)) ∙ ap length (line-monomials p h n g s filled) ∙ first-length p h n g s filled
 
     line-falling : Falling (Grevlex n) (polynomial (modulo p h) line)
     line-falling = falling-of-steps (grevlex-order n) (one n) (polynomial (modulo p h) line)
