@@ -10,7 +10,6 @@ use native.Mathlib.Bridge.{le_prop}
 use Rattle.lists.specs.Lists.{Bytes}
 use Rattle.residue.specs.Prime.{Prime}
 use Rattle.residue.specs.Field.{ZMod, modulo}
-use Rattle.residue.specs.Reciprocals.{Serves}
 use Rattle.residue.specs.declared.reciprocals.Reciprocals.{Reciprocals}
 use Rattle.monomial.specs.Rows.{Row}
 use Rattle.monomial.specs.Orders.{variables}
@@ -40,7 +39,7 @@ use Rattle.convert.specs.Finished.{PassedBasis, FinishedBasis}
 use Rattle.convert.proofs.Conversions.{outcome-converts}
 
 module _ (b : StoredBasis) (l : Irreducibles) (cells : List ℕ) (basis : PassedBasis l cells b) (reciprocals : Reciprocals)
-    (same : reciprocals.p ≡ b.p) (serves : Serves reciprocals) (s : List ℕ) (identity : s ≡ variables b.n) where
+    (same : reciprocals.field.p ≡ b.p) (s : List ℕ) (identity : s ≡ variables b.n) where
   open basis use {modulus, variables as sizes, convertible as given}
 
   abbrev t : Tables
@@ -57,7 +56,7 @@ module _ (b : StoredBasis) (l : Irreducibles) (cells : List ℕ) (basis : Passed
 
   pub enumerates : fglm.EnumerationInput reciprocals b.n s l t
   enumerates = subst (λ s. fglm.EnumerationInput reciprocals b.n s l t) (sym identity)
-      (convertible b reciprocals same (variables b.n) l t modulus sizes given.irreducibles serves (variables-ranking b.n) given.below
+      (convertible b reciprocals same (variables b.n) l t sizes given.irreducibles (variables-ranking b.n) given.below
       low clear (λ h. (reduced h).groebner) given.filled)
 
   module _ (r : LexBasis) (enumerated : Enumerated reciprocals b.n s l t r) where
@@ -69,7 +68,7 @@ module _ (b : StoredBasis) (l : Irreducibles) (cells : List ℕ) (basis : Passed
 
     at : Printable b.p b.n r × ((prime : Prime b.p) → let h = prime.above_one in
         Enumerates (modulo b.p h) b.n (Grevlex b.n) (Lex b.n (variables b.n)) (read.stored_lines b h) l.count (H h) (found_standard b.n r))
-    at = converted-at b reciprocals same (variables b.n) l t modulus sizes given.irreducibles serves (variables-ranking b.n) given.below
+    at = converted-at b reciprocals same (variables b.n) l t sizes given.irreducibles (variables-ranking b.n) given.below
         low clear (λ h. (reduced h).groebner) given.filled r found
 
     pub to-print : ToPrint b.p b.n r

@@ -22,6 +22,7 @@ use lines::sizes::MAX_LINES;
 use lines::store::{ALL_EXPONENTS, ALL_TERMS};
 use monomial::order::x1_to_xn;
 use multiplication::rows::MAX_CELLS;
+use residue::field::PrimeField;
 use residue::reciprocals::Reciprocals;
 use staircase::irreducible::Irreducibles;
 use tabtext::sink::{Count, Front};
@@ -66,7 +67,7 @@ fn convert_basis(
     requires { Stored shape counts.old coefficients.old exponents.old (PassedBasis irreducibles cells.now) }
     ensures { FinishedBasis (basis_in shape counts.old coefficients.old exponents.old) output.old output.new result }
 {
-    let reciprocals = Reciprocals::new(shape.p);
+    let reciprocals = Reciprocals::new(PrimeField::new(shape.p));
     let lex = enumerate(
         &mut *counts,
         &mut *coefficients,
