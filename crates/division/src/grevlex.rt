@@ -52,7 +52,7 @@ pub fn before(mut m: Monomial, n: usize) -> Monomial
     requires { HasPlace n (row n m) × (0 < place n (row n m)) }
     ensures { suc (place n (row n result)) ≡ place n (row n m) }
 {
-    let i = first_variable(m, n);
+    let i = first_variable(m, n).unwrap();
     let x = m.e[i].0 - 1;
     m.e[i] = Exponent(0);
     if i + 1 < n {

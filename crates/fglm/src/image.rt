@@ -46,12 +46,11 @@ pub fn image_of(
     requires { ImageInput field.p n m cells.now images.now ranks.now standard irreducibles }
     ensures { ImageRow field.p n m images.now standard (tables_of cells.now) irreducibles result }
 {
-    let i = first_variable(m, n);
-    if n <= i {
+    let Some(i) = first_variable(m, n) else {
         return one_row(irreducibles, n);
-    }
+    };
     let b = over_variable(m, i, n);
-    let s = rank_place(ranks, standard.count, rank(b, n));
+    let s = rank_place(&ranks[..standard.count], rank(b, n)).unwrap();
     let w = row_at(images, s * MAX_STANDARD);
     times_variable(cells, i, w, irreducibles.count, field)
 }

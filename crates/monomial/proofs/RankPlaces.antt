@@ -2,6 +2,8 @@
 --   rank_same                          the test of `equal`
 --   ranks-less                         a smaller rank of a list is that of a smaller monomial
 --   ranks-bounded, variables-bounded   the ranks of a list are below above_ranks, and those of the variables
+--   rising-front, bounded-front        the first ranks, as a list of their own, rise and are bounded
+--   first-front, next-front            what was found among them was found among the first ranks
 --   RanksStored n f count ranks₀ ranks k the loop of `put_variable_ranks`, `put_ranks` and `put_lead_ranks`: the first k ranks are stored
 --   ranks-none, ranks-more, ranks-all   before the first turn, after a turn, and after the last
 --   variables-ranked                    after the last, of the variables
@@ -13,13 +15,15 @@ use Prim.Native.Nat.{ℕ, ◌+◌, ◌≤◌, ◌<◌}
 use native.Mathlib.Omega.{arith}
 use borrow.Author.Tests.{eq-eqb, eqb-true}
 use lib.Dec.{eqb}
-use lib.ListN.{length, get_or, set}
+use lib.ListN.{length, get_or, set, take}
+use Rattle.std.proofs.lemmas.List.{get_or-take, length-take-le}
+use Rattle.std.specs.Prelude.{Option}
 use Rattle.lists.proofs.Storing.{FilledTo, stored-none, stored_more}
 use Rattle.monomial.specs.Sizes.{most_variables}
 use Rattle.monomial.specs.Rows.{Row, one}
 use Rattle.monomial.specs.Quotients.{variable}
 use Rattle.monomial.specs.Ordering.{Grevlex}
-use Rattle.monomial.specs.Ranks.{rank_of, Short, RanksOf, VariableRanks, Bounded}
+use Rattle.monomial.specs.Ranks.{rank_of, Short, RanksOf, VariableRanks, FirstRank, RisingRanks, Bounded, NextRank}
 use Rattle.monomial.proofs.RankOrder.{rank_less, rank-injective, rank-small}
 
 module _ (n : ℕ) where
@@ -35,6 +39,47 @@ module _ (n : ℕ) where
 
   pub ranks-bounded : n ≤ most_variables → {B : List (Row n)} {count : ℕ} {ranks : List ℕ} → RanksOf n B count ranks → Bounded ranks count
   ranks-bounded h are k u = omega (arith, are.rank k u, rank-small n h _ (are.short k u))
+
+-- The first ranks, as a list of their own.
+module _ (ranks : List ℕ) {count : ℕ} (h : count ≤ length ranks) where
+  front-size : length (take count ranks) ≡ count
+  front-size = length-take-le count ranks h
+
+  front-at : {k : ℕ} → k < count → get_or (take count ranks) k 0 ≡ get_or ranks k 0
+  front-at {k} u = get_or-take count ranks k 0 u
+
+  pub rising-front : RisingRanks ranks count → RisingRanks (take count ranks) (length (take count ranks))
+  rising-front rising j k l u =
+      let v : k < count = omega (arith, front-size) in
+      let w : j < count = omega arith in
+      omega (arith, rising j k l v, front-at v, front-at w)
+
+  pub bounded-front : Bounded ranks count → Bounded (take count ranks) (length (take count ranks))
+  bounded-front bounded k u =
+      let v : k < count = omega (arith, front-size) in
+      omega (arith, bounded k v, front-at v)
+
+  pub first-front : {w : ℕ} {r : Option ℕ} → FirstRank (take count ranks) (length (take count ranks)) w r → FirstRank ranks count w r
+  first-front first = record {
+    some = λ k e.
+        let s = first.some k e in
+        let v : k < count = omega (arith, s.within, front-size) in
+        record { within = v; found = sym (front-at v) ∙ s.found; first = λ j u q. s.first j u (front-at (omega arith) ∙ q) };
+    none = λ e k u q. first.none e k (omega (arith, front-size)) (front-at u ∙ q);
+  }
+
+  pub next-front : {from : ℕ} {best : Option ℕ} → NextRank (take count ranks) from best (length (take count ranks)) → NextRank ranks from best count
+  next-front {from} next = record {
+    some = λ b e.
+        let s = next.some b e in
+        let v : b < count = omega (arith, s.within, front-size) in
+        record {
+          within = v;
+          has = omega (arith, s.has, front-at v);
+          least = λ k u p l. s.least k (omega (arith, front-size)) (omega (arith, p, front-at u)) (omega (arith, l, front-at u, front-at v));
+        };
+    none = λ e k u p. next.none e k (omega (arith, front-size)) (omega (arith, p, front-at u));
+  }
 
 -- Of the ranks of the monomials f 0, f 1, .. the first k are stored.
 pub record RanksStored (n : ℕ) (f : ℕ → Row n) (count : ℕ) (ranks₀ ranks : List ℕ) (k : ℕ) : Type 0 where

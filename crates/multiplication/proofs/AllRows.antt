@@ -15,6 +15,7 @@ use native.Mathlib.Decide.{dec_lt}
 use native.Mathlib.Omega.{arith}
 use lib.ListN.{length, get_or, set, replicate, length-set, length-replicate}
 use lib.Seq.{get_or-set_same, get_or-set_other}
+use Rattle.std.specs.Prelude.{Option, None}
 use Rattle.lists.proofs.Storing.{zeros-at}
 use Rattle.residue.specs.Field.{modulo, residue}
 use Rattle.residue.proofs.ResidueField.{residue-ring}
@@ -35,7 +36,7 @@ use Rattle.multiplication.specs.Rows.{most_cells, NoRows, row_start, cell_at, Ce
 use Rattle.multiplication.specs.Filling.{Fillable, AllFilled}
 use Rattle.multiplication.specs.declared.fill.Cursors.{Cursors}
 use Rattle.multiplication.proofs.NewRows.{RowFor}
-use Rattle.multiplication.proofs.NextProducts.{cursor, Best}
+use Rattle.multiplication.proofs.NextProducts.{cursor, BestAt, Best}
 use Rattle.multiplication.proofs.RowFilling.{RowProgress, progress-none, progress-more}
 use Rattle.multiplication.proofs.RowRules.{listed-length, listed-irreducible}
 use Rattle.multiplication.proofs.Merging.{best-smaller}
@@ -69,7 +70,10 @@ filling-none {b} {l} {t} {c} o e f = record {
 module _ {b : StoredBasis} {l : Irreducibles} {t : Tables} {c : Cursors} (so_far : Filling b l t c) (given : Fillable b l) (full : l.count ≤ length l.monomials) where
   open given use {sound, irreducibles, low}
 
-  module _ {i : ℕ} (best : Best b.n l c i b.n) (hi : i < b.n) where
+  module _ {i : ℕ} (best : BestAt b.n l c i) where
+    hi : i < b.n
+    hi = best.within
+
     module _ {w : Coordinates} (new : RowFor b l t i (cursor c i) w) {t' : Tables} (put : RowPut t.cells (row_start i (cursor c i)) w t'.cells) where
       c' : Cursors
       c' = record { at = set c.at i (cursor c i + 1) }
@@ -92,8 +96,8 @@ module _ {b : StoredBasis} {l : Irreducibles} {t : Tables} {c : Cursors} (so_far
         cursors = length-set c.at i _ ∙ so_far.cursors;
         progress = λ h. progress-more (residue-ring b.p h) b.n (grevlex-order b.n) (stored_lines b h) (low h) (listed b.n l) (one b.n)
             (λ k u. listed-irreducible b l irreducibles full h k (omega (arith, listed-length b l irreducibles full h))) (so_far.progress h)
-            i (cursor c i) hi (omega (arith, best.some hi, listed-length b l irreducibles full h)) refl
-            (best-smaller h b.n (stored_lines b h) l c i (listed-length b l irreducibles full h) (irreducibles.lists h).rising best hi)
+            i (cursor c i) hi (omega (arith, best.has, listed-length b l irreducibles full h)) refl
+            (best-smaller h b.n (stored_lines b h) l c i (listed-length b l irreducibles full h) (irreducibles.lists h).rising best)
             (coordinates_of b.p h w) (new.rule h) (cell_of b.p h t')
             (λ k u. ap (residue b.p h) (put-here put k (omega (arith, irreducibles.few, listed-length b l irreducibles full h))))
             (λ j r hj hr k u. ap (residue b.p h) (there j r (λ q. apart h j r hj hr q) k (omega (arith, irreducibles.few, listed-length b l irreducibles full h))))
@@ -103,10 +107,10 @@ module _ {b : StoredBasis} {l : Irreducibles} {t : Tables} {c : Cursors} (so_far
           apart : (h : 1 < b.p) (j r : ℕ) → j < b.n → r < cursor c j → ¬ (j * most_standard + r ≡ i * most_standard + cursor c i)
           apart h j r hj hr q =
               let u : r < most_standard = omega (arith, (so_far.progress h).within j hj, listed-length b l irreducibles full h, irreducibles.few) in
-              let v : cursor c i < most_standard = omega (arith, best.some hi, irreducibles.few) in
+              let v : cursor c i < most_standard = omega (arith, best.has, irreducibles.few) in
               let e : j ≡ i = omega arith in
               let f : cursor c j ≡ cursor c i = ap (cursor c) e in
               omega arith
 
-  pub filling-all : {i : ℕ} → Best b.n l c i b.n → b.n ≤ i → (h : 1 < b.p) → AllFilled b h l t
+  pub filling-all : {best : Option ℕ} → Best b.n l c best → best ≡ None → (h : 1 < b.p) → AllFilled b h l t
   filling-all best e h j hj r hr = (so_far.progress h).filled j r hj (omega (arith, best.none e j hj))

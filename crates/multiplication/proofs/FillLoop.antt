@@ -4,32 +4,34 @@
 --   prepared           so it is
 --   FillLoop           what holds at its head
 --   fill_start         before the first turn
+--   fill-bounded       the ranks of the next products are bounded
+--   fill-inside        a row of the variable is to be filled
 --   fill-place         the variable and the place of the row that is filled next
 --   fill-product       the product that it is of
 --   fill-line          a place among the leading monomials is that of a line
 --   fill-led           the row, where a line leads with the product
 --   fill-through       where none does, and it is not listed, it comes through a smaller product
 --   fill-made          the row, where none does
---   fill-nexts         the next products after the turn
 --   fill-turn          a turn
 --   fill_stop          after the last turn
 use mathlib.Core.Path.{◌≡◌}
 use mathlib.Core.List.{List}
 use Prim.Native.Nat.{ℕ, ◌+◌, ◌≤◌, ◌<◌}
 use native.Mathlib.Omega.{arith}
-use lib.ListN.{length, get_or, set, replicate}
+use lib.ListN.{length, get_or, set, take, replicate}
+use Rattle.std.specs.Prelude.{Option, Some, None}
 use Rattle.monomial.specs.Sizes.{most_variables}
 use Rattle.monomial.specs.Rows.{product}
 use Rattle.monomial.specs.Quotients.{variable}
-use Rattle.monomial.specs.Ranks.{RanksOf, VariableRanks, FirstRank, NextRank}
+use Rattle.monomial.specs.Ranks.{RanksOf, VariableRanks, FirstRank, Bounded, NextRank}
 use Rattle.lines.specs.Sizes.{most_standard}
 use Rattle.lines.specs.Bases.{StoredBasis}
 use Rattle.staircase.specs.Leads.{rows_of, LeadsOf}
 use Rattle.staircase.specs.Sound.{generator_at}
-use Rattle.staircase.specs.Listed.{listed, listed_at, Place}
+use Rattle.staircase.specs.Listed.{listed, listed_at}
 use Rattle.staircase.specs.declared.irreducible.Irreducibles.{Irreducibles}
 use Rattle.staircase.specs.declared.leads.Leads.{Leads}
-use Rattle.staircase.proofs.RankedLists.{rank-place, ranks-rising}
+use Rattle.staircase.proofs.RankedLists.{FoundPlace, rank-place, ranks-rising}
 use Rattle.coordinates.specs.Rows.{RowPut}
 use Rattle.coordinates.specs.declared.Coordinates.{Coordinates}
 use Rattle.multiplication.specs.Rows.{NoRows, row_start, tables_of}
@@ -40,7 +42,7 @@ use Rattle.multiplication.specs.Filling.{Fillable, FilledRows}
 use Rattle.multiplication.specs.declared.fill.Cursors.{Cursors}
 use Rattle.multiplication.proofs.NewRows.{RowFor}
 use Rattle.multiplication.proofs.RankQuotients.{product-short}
-use Rattle.multiplication.proofs.NextProducts.{cursor, Nexts, Best, nexts-more, nexts-best}
+use Rattle.multiplication.proofs.NextProducts.{cursor, Nexts, BestAt, Best, nexts-more, nexts-front, nexts-best}
 use Rattle.multiplication.proofs.RowRules.{listed-length, comes-through, row_made, row-led}
 use Rattle.multiplication.proofs.AllRows.{Filling, filling-none, filling-more, filling-all}
 
@@ -71,65 +73,74 @@ prepared {b} {l} given full lines ranks variables are lead_ranks =
       lead_ranks = lead_ranks;
     }
 
--- The rows below the cursors are filled, the ranks of the next products are held, and that of x_i is the smallest.
-pub record FillLoop (b : StoredBasis) (l : Irreducibles) (rs xs : List ℕ) (leads : Leads) (gs cells : List ℕ) (c : Cursors) (next : List ℕ) (i : ℕ) : Type 0 where
+-- The rows below the cursors are filled, and the ranks of the next products are held.
+pub record FillLoop (b : StoredBasis) (l : Irreducibles) (rs xs : List ℕ) (leads : Leads) (gs cells : List ℕ) (c : Cursors) (next : List ℕ) : Type 0 where
   pub known : Prepared b l rs xs leads gs
   pub filling : Filling b l (tables_of cells) c
-  pub best : Best b.n l c i b.n
   pub nexts : Nexts b.n l c next
 
-module _ {b : StoredBasis} {l : Irreducibles} {rs xs : List ℕ} {leads : Leads} {gs cells : List ℕ} {c : Cursors} {next : List ℕ} {i : ℕ} where
-  pub fill_start : Prepared b l rs xs leads gs → NoRows cells → c.at ≡ replicate most_variables 0 → Nexts b.n l c next
-      → NextRank next b.n 1 i b.n → FillLoop b l rs xs leads gs cells c next i
-  fill_start known none z nexts found = record {
+module _ {b : StoredBasis} {l : Irreducibles} {rs xs : List ℕ} {leads : Leads} {gs cells : List ℕ} {c : Cursors} {next : List ℕ} where
+  pub fill_start : Prepared b l rs xs leads gs → NoRows cells → c.at ≡ replicate most_variables 0 → Nexts b.n l c next → FillLoop b l rs xs leads gs cells c next
+  fill_start known none z nexts = record {
     known = known;
     filling = filling-none (omega (arith, known.given.sound.modulus.prime.above_one)) none z;
-    best = nexts-best known.ranked.listing nexts found;
     nexts = nexts;
   }
 
-  module _ (loop : FillLoop b l rs xs leads gs cells c next i) where
-    open loop use {known, filling, best, nexts}
+  module _ (loop : FillLoop b l rs xs leads gs cells c next) where
+    open loop use {known, filling, nexts}
 
-    pub fill_stop : b.n ≤ i → FilledRows b l cells
-    fill_stop e = record { stored = filling.stored; filled = filling-all filling known.given known.full best e }
+    pub fill-bounded : Bounded (take b.n next) (length (take b.n next))
+    fill-bounded = nexts-front known.ranked.listing nexts
 
-    module _ (hi : i < b.n) where
-      inside : cursor c i < l.count
-      inside = best.some hi
+    -- The place of the least of the ranks.
+    module _ {first : Option ℕ} (found : NextRank (take b.n next) 1 first (length (take b.n next))) where
+      best : Best b.n l c first
+      best = nexts-best known.ranked.listing nexts found
 
-      pub fill-place : (i < most_variables) × (cursor c i < most_standard)
-      fill-place = (omega (arith, known.ranked.listing.variables), omega (arith, inside, known.ranked.listing.few))
+      pub fill_stop : first ≡ None → FilledRows b l cells
+      fill_stop e = record { stored = filling.stored; filled = filling-all filling known.given known.full best e }
 
-      pub fill-product : ProductAt b.n l i (cursor c i) (get_or next i 0)
-      fill-product = record { within = hi; inside = inside; rank = nexts.held i hi inside }
+      module _ {i : ℕ} (is : first ≡ Some i) where
+        at_i : BestAt b.n l c i
+        at_i = best.some i is
 
-      -- By the first place of the product's rank among those of the leading monomials.
-      module _ {k : ℕ} (first : FirstRank gs leads.count (get_or next i 0) k) where
-        lead : Place b.n (rows_of b.n leads.count leads.monomials) leads.count (product b.n (variable b.n i) (listed_at b.n l (cursor c i))) k
-        lead = rank-place _ known.lead_ranks (nexts.held i hi inside, product-short known.ranked.listing _ inside _ hi) first
+        hi : i < b.n
+        hi = at_i.within
 
-        pub fill-line : k < leads.count → k < b.lines
-        fill-line u = omega (arith, known.are.0)
+        pub fill-inside : cursor c i < l.count
+        fill-inside = at_i.has
 
-        pub fill-led : k < leads.count → {w : Coordinates} → TailRow b.p b.n (generator_at b k) l w → RowFor b l (tables_of cells) i (cursor c i) w
-        fill-led = row-led b known.given.sound l known.given.irreducibles known.full known.lines leads known.are (tables_of cells) i (cursor c i) hi inside lead
+        pub fill-place : (i < b.n) × (i < most_variables) × (cursor c i < most_standard)
+        fill-place = (hi, omega (arith, hi, known.ranked.listing.variables), omega (arith, fill-inside, known.ranked.listing.few))
 
-        pub fill-through : leads.count ≤ k → Unlisted b.n l i (cursor c i) → Through b.n l i (cursor c i)
-        fill-through = comes-through b known.given.sound l known.given.irreducibles known.full known.lines leads known.are (tables_of cells) i (cursor c i) hi inside lead
+        pub fill-product : ProductAt b.n l i (cursor c i) (get_or next i 0)
+        fill-product = record { within = hi; inside = fill-inside; rank = nexts.held i hi fill-inside }
 
-        pub fill-made : {w : Coordinates} → MadeRow b.p b.n l (tables_of cells) i (cursor c i) w → RowFor b l (tables_of cells) i (cursor c i) w
-        fill-made = row_made b known.given.sound l known.given.irreducibles known.full known.lines leads known.are (tables_of cells) i (cursor c i) hi inside lead
+        -- By the first place of the product's rank among those of the leading monomials.
+        module _ {r : Option ℕ} (ranked : FirstRank (take leads.count gs) (length (take leads.count gs)) (get_or next i 0) r) where
+          lead : FoundPlace b.n (rows_of b.n leads.count leads.monomials) leads.count (product b.n (variable b.n i) (listed_at b.n l (cursor c i))) r
+          lead = rank-place _ known.lead_ranks (nexts.held i hi fill-inside, product-short known.ranked.listing _ fill-inside _ hi) ranked
 
-      module _ {r : ℕ} (rank : ProductRank rs l.count (get_or xs i 0) (cursor c i + 1) r) where
-        pub fill-nexts : Nexts b.n l (record { at = set c.at i (cursor c i + 1) }) (set next i r)
-        fill-nexts = nexts-more _ _ known.ranked.ranks known.ranked.variables nexts i hi fill-place.0 filling.cursors r rank
+          module _ {k : ℕ} (s : r ≡ Some k) where
+            pub fill-line : k < b.lines
+            fill-line = omega (arith, lead.some k s, known.are.0)
 
-        pub fill-turn : {w : Coordinates} {cells' : List ℕ} {i' : ℕ} → RowFor b l (tables_of cells) i (cursor c i) w → RowPut cells (row_start i (cursor c i)) w cells'
-            → NextRank (set next i r) b.n 1 i' b.n → FillLoop b l rs xs leads gs cells' (record { at = set c.at i (cursor c i + 1) }) (set next i r) i'
-        fill-turn new put found = record {
-          known = known;
-          filling = filling-more filling known.given known.full best hi new put;
-          best = nexts-best known.ranked.listing fill-nexts found;
-          nexts = fill-nexts;
-        }
+            pub fill-led : {w : Coordinates} → TailRow b.p b.n (generator_at b k) l w → RowFor b l (tables_of cells) i (cursor c i) w
+            fill-led = let (u, p) = lead.some k s in
+                row-led b known.given.sound l known.given.irreducibles known.full known.lines leads known.are (tables_of cells) i (cursor c i) hi fill-inside p u
+
+          module _ (s : r ≡ None) where
+            pub fill-through : Unlisted b.n l i (cursor c i) → Through b.n l i (cursor c i)
+            fill-through = comes-through b known.given.sound l known.given.irreducibles known.full known.lines leads known.are (tables_of cells) i (cursor c i) hi fill-inside (lead.none s) (omega arith)
+
+            pub fill-made : {w : Coordinates} → MadeRow b.p b.n l (tables_of cells) i (cursor c i) w → RowFor b l (tables_of cells) i (cursor c i) w
+            fill-made = row_made b known.given.sound l known.given.irreducibles known.full known.lines leads known.are (tables_of cells) i (cursor c i) hi fill-inside (lead.none s)
+
+        module _ {r : ℕ} (rank : ProductRank rs l.count (get_or xs i 0) (cursor c i + 1) r) where
+          fill-nexts : Nexts b.n l (record { at = set c.at i (cursor c i + 1) }) (set next i r)
+          fill-nexts = nexts-more _ _ known.ranked.ranks known.ranked.variables nexts i hi fill-place.1 filling.cursors r rank
+
+          pub fill-turn : {w : Coordinates} {cells' : List ℕ} → RowFor b l (tables_of cells) i (cursor c i) w → RowPut cells (row_start i (cursor c i)) w cells'
+              → FillLoop b l rs xs leads gs cells' (record { at = set c.at i (cursor c i + 1) }) (set next i r)
+          fill-turn new put = record { known = known; filling = filling-more filling known.given known.full at_i new put; nexts = fill-nexts }

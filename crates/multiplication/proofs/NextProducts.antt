@@ -2,11 +2,13 @@
 --   cursor c i             the number of the rows of x_i that are filled
 --   next_product n l c i   the next product of x_i
 --   Nexts n l c next       the ranks of the next products are held
---   Best n l c best j      of the variables before x_j, `best` has the smallest next product; it is n where none of them has one
+--   BestAt n l c i         of the variables, x_i has the smallest next product
+--   Best n l c best        of the variables, `best` has it; it is None where none of them has one
 --   product-rank-is        the rank that `product_rank` answers
 --   nexts-first            the ranks of the first products
 --   nexts-more             one of them changed, for the row after one that is filled
 --   nexts-bounded          they are below above_ranks
+--   nexts-front            so are those of the n variables, as a list of their own
 --   nexts-best             the least of them is that of the smallest next product
 use mathlib.Core.Path.{◌≡◌, sym, ◌∙◌, ap}
 use mathlib.Core.List.{List}
@@ -14,15 +16,17 @@ use mathlib.Core.Logic.{by_cases}
 use Prim.Native.Nat.{ℕ, ◌+◌, ◌≤◌, ◌<◌}
 use native.Mathlib.Decide.{ℕ_discrete, dec_lt}
 use native.Mathlib.Omega.{arith}
-use lib.ListN.{length, get_or, set, length-set}
+use lib.ListN.{length, get_or, set, take, length-set}
 use lib.Seq.{get_or-set_same, get_or-set_other}
+use Rattle.std.specs.Prelude.{Option}
 use Rattle.monomial.specs.Sizes.{most_variables}
 use Rattle.monomial.specs.Rows.{Row, product}
 use Rattle.monomial.specs.Quotients.{variable}
 use Rattle.monomial.specs.Ordering.{Grevlex}
-use Rattle.monomial.specs.Least.{Least}
+use Rattle.monomial.specs.Least.{LeastAt, Least}
 use Rattle.monomial.specs.Ranks.{rank_of, RanksOf, VariableRanks, Bounded, NextRank}
 use Rattle.monomial.proofs.RankOrder.{rank_less, rank-product, rank-small}
+use Rattle.monomial.proofs.RankPlaces.{bounded-front, next-front}
 use Rattle.monomial.proofs.RankSearch.{least-as}
 use Rattle.staircase.specs.Listed.{listed, listed_at}
 use Rattle.staircase.specs.declared.irreducible.Irreducibles.{Irreducibles}
@@ -44,9 +48,13 @@ pub record Nexts (n : ℕ) (l : Irreducibles) (c : Cursors) (next : List ℕ) : 
   pub held : (i : ℕ) → i < n → cursor c i < l.count → get_or next i 0 ≡ rank_of n (next_product n l c i)
   pub none : (i : ℕ) → i < n → l.count ≤ cursor c i → get_or next i 0 ≡ 0
 
--- Of the variables before x_j, `best` has the smallest next product; it is n where none of them has one.
-abbrev pub Best : (n : ℕ) → Irreducibles → Cursors → (best j : ℕ) → Type 0
-Best n l c = Least n (Grevlex n) (λ k. cursor c k < l.count) (next_product n l c)
+-- Of the variables, x_i has the smallest next product.
+abbrev pub BestAt : (n : ℕ) → Irreducibles → Cursors → ℕ → Type 0
+BestAt n l c = LeastAt (Grevlex n) (λ k. cursor c k < l.count) (next_product n l c) n
+
+-- Of the variables, `best` has the smallest next product; it is None where none of them has one.
+abbrev pub Best : (n : ℕ) → Irreducibles → Cursors → Option ℕ → Type 0
+Best n l c best = Least (Grevlex n) (λ k. cursor c k < l.count) (next_product n l c) best n
 
 module _ (n : ℕ) (l : Irreducibles) {ranks variables : List ℕ} (are : RanksOf n (listed n l) l.count ranks) (of-variables : VariableRanks n variables) where
   pub product-rank-is : {i s r : ℕ} → i < n → ProductRank ranks l.count (get_or variables i 0) s r → s < l.count → r ≡ rank_of n (product n (variable n i) (listed_at n l s))
@@ -87,8 +95,14 @@ module _ {n : ℕ} {l : Irreducibles} (listing : Listing n l) {c : Cursors} {nex
       (λ h. omega (arith, nexts.held k u h, rank-small n listing.variables (next_product n l c k) (product-short listing (cursor c k) h k u)))
       (λ h. omega (arith, nexts.none k u (omega arith)))
 
-  pub nexts-best : {i : ℕ} → NextRank next n 1 i n → Best n l c i n
-  nexts-best found = least-as found
+  nexts-room : n ≤ length next
+  nexts-room = omega (arith, nexts.size, listing.variables)
+
+  pub nexts-front : Bounded (take n next) (length (take n next))
+  nexts-front = bounded-front next nexts-room nexts-bounded
+
+  pub nexts-best : {best : Option ℕ} → NextRank (take n next) 1 best (length (take n next)) → Best n l c best
+  nexts-best found = least-as (next-front next nexts-room found)
       (λ k u. (
         λ p. by_cases (dec_lt (cursor c k) l.count) (λ h. h) (λ h. absurd (omega (arith, nexts.none k u (omega arith)))),
         λ h. omega (arith, nexts.held k u h, product-positive listing (cursor c k) h k u),

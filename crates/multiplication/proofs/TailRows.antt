@@ -1,6 +1,6 @@
 -- The loop of `tail_row`: the terms of a tail are subtracted, from the last on.
---   subtracted-at        a store at a place below `count`
---   subtracted-nowhere   a place that is none
+--   subtracted-at        a store at a place
+--   subtracted-nowhere   there is none
 --   Gathered             the terms from k on are subtracted
 --   gathered_none        at first none
 --   gathered-small       the coefficient of the next term is below p
@@ -10,10 +10,11 @@ use mathlib.Core.List.{List, ◌∷◌}
 use mathlib.Core.Logic.{by_cases}
 use Prim.Native.Nat.{ℕ, suc, ◌+◌, ◌-◌, ◌%◌, ◌≤◌, ◌<◌}
 use native.Mathlib.Nat.{add-mod, mod-mod, mod-eq_of_lt}
-use native.Mathlib.Decide.{ℕ_discrete, dec_lt}
+use native.Mathlib.Decide.{ℕ_discrete}
 use native.Mathlib.Omega.{arith}
 use lib.ListN.{length, get_or, set, drop, drop_of_length-le}
 use lib.Seq.{get_or-set_same, get_or-set_other}
+use Rattle.std.specs.Prelude.{Option, Some, None}
 use Rattle.residue.specs.Modular.{sum_mod, negation_mod}
 use Rattle.residue.specs.Differences.{difference_mod}
 use Rattle.residue.specs.Field.{ZMod, modulo, residue}
@@ -29,9 +30,10 @@ use Rattle.groebner.proofs.Terms.{coef-nil, coef-here, coef-there}
 use Rattle.lines.specs.Sizes.{most_standard}
 use Rattle.lines.specs.declared.line.Generator.{Generator}
 use Rattle.staircase.specs.Sound.{SoundLine, coefficient_at}
-use Rattle.staircase.specs.Listed.{listed, listed_at, Place, Distinct}
+use Rattle.staircase.specs.Listed.{listed, listed_at, Distinct}
 use Rattle.staircase.specs.declared.irreducible.Irreducibles.{Irreducibles}
 use Rattle.staircase.proofs.ArrayRows.{no_monomial}
+use Rattle.staircase.proofs.RankedLists.{FoundPlace}
 use Rattle.coordinates.specs.Vectors.{coordinate, Below, coordinates_of}
 use Rattle.coordinates.specs.declared.Coordinates.{Coordinates}
 use Rattle.multiplication.specs.Tails.{Subtracted}
@@ -42,23 +44,23 @@ residue-difference : (p : ℕ) (h : 1 < p) (a c : ℕ) → c < p → residue p h
 unfolding residue modulo sum_mod negation_mod difference_mod
 residue-difference p h a c l = residue-same (mod-mod _ p ∙ add-mod a (p - c) p ∙ ap (λ x. (a % p + (p - x) % p) % p) (sym (mod-eq_of_lt l)))
 
-module _ {p count : ℕ} {r : Coordinates} {c at : ℕ} (below : Below p r) where
-  pub subtracted-at : {x : Residue} → length r.c ≡ most_standard → at < count → count ≤ most_standard → (x.0 ≡ difference_mod p (coordinate r at) c) × (x.0 < p)
-      → Subtracted p count r c at (record { c = set r.c at x })
-  subtracted-at {x} s h l e = record {
-    below = record { below = λ k. by_cases (ℕ_discrete k at) (λ q. rw (q, here) e.1) (λ q. rw (other k q) (below.below k)) };
-    there = λ _. here ∙ e.0;
-    elsewhere = λ k m q. other k q;
+module _ {p : ℕ} {r : Coordinates} {c : ℕ} (below : Below p r) where
+  pub subtracted-at : {at : Option ℕ} {i : ℕ} {x : Residue} → at ≡ Some i → length r.c ≡ most_standard → i < most_standard → (x.0 ≡ difference_mod p (coordinate r i) c) × (x.0 < p)
+      → Subtracted p r c at (record { c = set r.c i x })
+  subtracted-at {at} {i} {x} is s h e = record {
+    below = record { below = λ k. by_cases (ℕ_discrete k i) (λ q. rw (q, here) e.1) (λ q. rw (other k q) (below.below k)) };
+    there = λ k q. let same : k ≡ i = cc in rw (same, here) e.0;
+    elsewhere = λ k q. other k (λ t. q (is ∙ ap Some (sym t)));
   }
     where
-      here : (get_or (set r.c at x) at (record { 0 = 0 })).0 ≡ x.0
-      here = ap (λ (y : Residue). y.0) (get_or-set_same r.c at x (record { 0 = 0 }) (omega arith))
+      here : (get_or (set r.c i x) i (record { 0 = 0 })).0 ≡ x.0
+      here = ap (λ (y : Residue). y.0) (get_or-set_same r.c i x (record { 0 = 0 }) (omega arith))
 
-      other : (k : ℕ) → ¬ (k ≡ at) → (get_or (set r.c at x) k (record { 0 = 0 })).0 ≡ coordinate r k
-      other k q = ap (λ (y : Residue). y.0) (get_or-set_other r.c at k x (record { 0 = 0 }) q)
+      other : (k : ℕ) → ¬ (k ≡ i) → (get_or (set r.c i x) k (record { 0 = 0 })).0 ≡ coordinate r k
+      other k q = ap (λ (y : Residue). y.0) (get_or-set_other r.c i k x (record { 0 = 0 }) q)
 
-  pub subtracted-nowhere : count ≤ at → Subtracted p count r c at r
-  subtracted-nowhere h = record { below = below; there = λ l. absurd (omega arith); elsewhere = λ k m q. refl }
+  pub subtracted-nowhere : {at : Option ℕ} → at ≡ None → Subtracted p r c at r
+  subtracted-nowhere e = record { below = below; there = λ k q. cc; elsewhere = λ k q. refl }
 
 negative-zero : (p : ℕ) (h : 1 < p) → (modulo p h).neg (modulo p h).zero ≡ (modulo p h).zero
 unfolding self
@@ -91,13 +93,22 @@ gathered_none {p} {n} {g} {l} {r} o s f z = record {
       ∙ coef-nil (residue-ring p h) (monomials n) _) ∙ negative-zero p h);
 }
 
+-- Whether a place is j.
+option? : (o : Option ℕ) (j : ℕ) → Dec (o ≡ Some j)
+option? None j = no (λ e. cc)
+option? (Some i) j = go (ℕ_discrete i j)
+  where
+    go : Dec (i ≡ j) → Dec (Some i ≡ Some j)
+    go (yes e) = yes (ap Some e)
+    go (no d) = no (λ e. d cc)
+
 module _ {p n : ℕ} {g : Generator} {l : Irreducibles} {r : Coordinates} {k : ℕ} (so_far : Gathered p n g l r k) (more : 1 < k) where
   pub gathered-small : (get_or g.coefficients (k - 1) (record { 0 = 0 })).0 < p
   unfolding coefficient_at
   gathered-small = (so_far.sound.coefficients (k - 1) (omega (arith, so_far.within))).1
 
-  pub gathered-more : {at : ℕ} {a : Coordinates} → Distinct n l → Place n (listed n l) l.count (row n (get_or g.monomials (k - 1) no_monomial)) at
-      → Subtracted p l.count r (get_or g.coefficients (k - 1) (record { 0 = 0 })).0 at a → Gathered p n g l a (k - 1)
+  pub gathered-more : {at : Option ℕ} {a : Coordinates} → Distinct n l → FoundPlace n (listed n l) l.count (row n (get_or g.monomials (k - 1) no_monomial)) at
+      → Subtracted p r (get_or g.coefficients (k - 1) (record { 0 = 0 })).0 at a → Gathered p n g l a (k - 1)
   unfolding coordinates_of
   gathered-more {at} {a} once place sub = record {
     some = omega arith;
@@ -105,7 +116,7 @@ module _ {p n : ℕ} {g : Generator} {l : Irreducibles} {r : Coordinates} {k : �
     sound = so_far.sound;
     filled = so_far.filled;
     below = sub.below;
-    coefficients = λ h j m. by_cases (ℕ_discrete j at) (λ q. here h j m q) (λ q. other h j m q);
+    coefficients = λ h j m. by_cases (option? at j) (here h j m) (other h j m);
   }
     where
       c : ℕ
@@ -122,11 +133,11 @@ module _ {p n : ℕ} {g : Generator} {l : Irreducibles} {r : Coordinates} {k : �
       goal : (h : 1 < p) (j : ℕ) → ZMod p → Type 0
       goal h j x = x ≡ (modulo p h).neg (coef (modulo p h) (monomials n) (drop (k - 1 - 1) (tail_of p h n g)) (listed_at n l j))
 
-      here : (h : 1 < p) (j : ℕ) → j < l.count → j ≡ at → goal h j (coordinates_of p h a j)
+      here : (h : 1 < p) (j : ℕ) → j < l.count → at ≡ Some j → goal h j (coordinates_of p h a j)
       here h j m q =
-          let u : at < l.count = omega arith in
-          let e : listed_at n l j ≡ row n (get_or g.monomials (k - 1) no_monomial) = rw q (place.found u) in
-          let t : coordinate a j ≡ difference_mod p (coordinate r j) c = rw q (sub.there u) in
+          let (u, there) = place.some j q in
+          let e : listed_at n l j ≡ row n (get_or g.monomials (k - 1) no_monomial) = there.found u in
+          let t : coordinate a j ≡ difference_mod p (coordinate r j) c = sub.there j q in
           ap (residue p h) t ∙ residue-difference p h (coordinate r j) c gathered-small
           ∙ ap (λ x. (modulo p h).add x ((modulo p h).neg (residue p h c))) (so_far.coefficients h j m) ∙ negative-sum p h (residue p h c) _
           ∙ ap (modulo p h).neg (subst (λ x. (modulo p h).add (residue p h c) (coef (modulo p h) (monomials n) (rest h) x)
@@ -134,9 +145,13 @@ module _ {p n : ℕ} {g : Generator} {l : Irreducibles} {r : Coordinates} {k : �
           (sym (coef-here (residue-ring p h) (monomials n) (residue p h c) (row n (get_or g.monomials (k - 1) no_monomial)) (rest h)))
           ∙ ap (λ t. coef (modulo p h) (monomials n) t (listed_at n l j)) (sym (step h)))
 
-      other : (h : 1 < p) (j : ℕ) → j < l.count → ¬ (j ≡ at) → goal h j (coordinates_of p h a j)
-      other h j m q = ap (residue p h) (sub.elsewhere j m q) ∙ so_far.coefficients h j m
+      other : (h : 1 < p) (j : ℕ) → j < l.count → ¬ (at ≡ Some j) → goal h j (coordinates_of p h a j)
+      other h j m q = ap (residue p h) (sub.elsewhere j q) ∙ so_far.coefficients h j m
           ∙ ap (modulo p h).neg (sym (ap (λ t. coef (modulo p h) (monomials n) t (listed_at n l j)) (step h) ∙ coef-there (residue-ring p h) (monomials n) _ (rest h) (listed_at n l j) differs))
         where
           differs : ¬ (listed_at n l j ≡ row n (get_or g.monomials (k - 1) no_monomial))
-          differs e = by_cases (dec_lt at l.count) (λ u. q (once j at m u (e ∙ sym (place.found u)))) (λ u. place.first j (omega (arith, place.within)) e)
+          differs e = go at refl
+            where
+              go : (o : Option ℕ) → at ≡ o → ⊥
+              go None d = (place.none d).first j m e
+              go (Some i) d = let (u, there) = place.some i d in q (d ∙ ap Some (sym (once j i m u (e ∙ sym (there.found u)))))

@@ -1,7 +1,7 @@
 -- Inner contracts. The row of minus the tail of a line.
 --   Subtracted              coordinates from which c is subtracted at a place
 --   TailRow p n g l r       r has the coordinates of minus the tail of the line g
-use Rattle.std.specs.Prelude.{ℕ, ◌<◌, ◌≡◌}
+use Rattle.std.specs.Prelude.{ℕ, ◌<◌, ◌≡◌, Option, Some}
 use Rattle.residue.specs.Differences.{difference_mod}
 use Rattle.residue.specs.Field.{modulo}
 use Rattle.monomial.specs.Ordering.{monomials}
@@ -14,11 +14,11 @@ use Rattle.staircase.specs.declared.irreducible.Irreducibles.{Irreducibles}
 use Rattle.coordinates.specs.Vectors.{coordinate, Below, coordinates_of}
 use Rattle.coordinates.specs.declared.Coordinates.{Coordinates}
 
--- a has the coefficients of r, but c is subtracted at the place `at`, if that is below `count`.
-pub record Subtracted (p count : ℕ) (r : Coordinates) (c at : ℕ) (a : Coordinates) : Type 0 where
+-- a has the coefficients of r, but c is subtracted at the place `at`, if it is one.
+pub record Subtracted (p : ℕ) (r : Coordinates) (c : ℕ) (at : Option ℕ) (a : Coordinates) : Type 0 where
   pub below : Below p a
-  pub there : at < count → coordinate a at ≡ difference_mod p (coordinate r at) c
-  pub elsewhere : (k : ℕ) → k < count → ¬ (k ≡ at) → coordinate a k ≡ coordinate r k
+  pub there : (k : ℕ) → at ≡ Some k → coordinate a k ≡ difference_mod p (coordinate r k) c
+  pub elsewhere : (k : ℕ) → ¬ (at ≡ Some k) → coordinate a k ≡ coordinate r k
 
 -- r has the coordinates of minus the tail of the line g.
 pub record TailRow (p n : ℕ) (g : Generator) (l : Irreducibles) (r : Coordinates) : Type 0 where

@@ -1,6 +1,6 @@
 // The rows of the products typeof.x_i.B_s, filled in rising grevlex order of these products, B the irreducible monomials.
-ghost use Rattle.std.specs.Prelude.{◌≡◌, true, ◌↔◌, ◌≤◌, ◌<◌, length, get_or};
-ghost use Rattle.residue.specs.Prime.{largest_modulus};
+ghost use Rattle.std.specs.Prelude.{◌≡◌, ℕ, true, ◌↔◌, ◌≤◌, ◌<◌, length, get_or};
+ghost use Rattle.residue.specs.Prime.{largest_modulus, Modulus};
 ghost use Rattle.monomial.specs.Sizes.{most_variables};
 ghost use Rattle.monomial.specs.Rows.{exponent};
 ghost use Rattle.monomial.specs.Represented.{row};
@@ -26,20 +26,19 @@ use lines::store::line_at;
 use monomial::rank::{next_place, place_after, put_variable_ranks, rank, rank_place};
 use monomial::{Exponent, MAX_VARIABLES, Monomial};
 use residue::Residue;
-use residue::field::PrimeField;
 use staircase::irreducible::Irreducibles;
 use staircase::leads::Leads;
 use staircase::place::listed_at;
 use staircase::ranks::{put_lead_ranks, put_ranks};
 
-// c is subtracted at a place below count; nothing is done for any other.
-fn subtract_at(mut r: Coordinates, c: Residue, at: usize, count: usize, p: u16) -> Coordinates
-    requires { Below p r × (c.0 < p) × (p ≤ largest_modulus) × (count ≤ most_standard) }
-    ensures { Subtracted p count r c.0 at result }
+// c is subtracted at a place, if there is one.
+fn subtract_at(mut r: Coordinates, c: Residue, at: Option<usize>, p: u16) -> Coordinates
+    requires { Below p r × (c.0 < p) × (p ≤ largest_modulus) × ((k : ℕ) → at ≡ Some k → k < most_standard) }
+    ensures { Subtracted p r c.0 at result }
 {
-    if at < count {
-        let a = r.c[at];
-        r.c[at] = a.sub(c, p);
+    if let Some(k) = at {
+        let a = r.c[k];
+        r.c[k] = a.sub(c, p);
     }
     r
 }
@@ -60,8 +59,8 @@ fn tail_row(
     for k in (1..g.terms).rev() {
         let m = g.monomials[k];
         let c = g.coefficients[k];
-        let at = rank_place(ranks, irreducibles.count, rank(m, n));
-        r = subtract_at(r, c, at, irreducibles.count, p);
+        let at = rank_place(&ranks[..irreducibles.count], rank(m, n));
+        r = subtract_at(r, c, at, p);
     }
     r
 }
@@ -71,7 +70,7 @@ fn is_detour(ranks: &[u64], count: usize, e: Exponent, wanted: u64, x: u64) -> b
     requires { (count ≤ length ranks.now) × (0 < e.0 → x ≤ wanted) × RisingRanks ranks.now count }
     ensures { (result ≡ true) ↔ PassesBy ranks.now count e.0 wanted x }
 {
-    e.0 != 0 && place_after(ranks, count, 0, wanted - x) == count
+    e.0 != 0 && place_after(&ranks[..count], 0, wanted - x).is_none()
 }
 
 // The first x_j that divides m with w less its rank no rank of the list, of which there is one.
@@ -106,17 +105,17 @@ fn product_row(
     i: usize,
     place: usize,
     n: usize,
-    field: PrimeField,
+    p: u16,
 ) -> Coordinates
     requires { let l = irreducibles in
-        Cells field.p cells.now × RankedList n l ranks.now variables.now × ProductAt n l i place wanted × Through n l i place }
-    ensures { ProductRow field.p n irreducibles (tables_of cells.now) i place result }
+        Modulus p × Cells p cells.now × RankedList n l ranks.now variables.now × ProductAt n l i place wanted × Through n l i place }
+    ensures { ProductRow p n irreducibles (tables_of cells.now) i place result }
 {
     let m = listed_at(irreducibles, place);
     let j = variable_through(ranks, variables, irreducibles.count, m, wanted, n);
-    let at = rank_place(ranks, irreducibles.count, ranks[place] - variables[j]);
+    let at = rank_place(&ranks[..irreducibles.count], ranks[place] - variables[j]).unwrap();
     let row = row_at(cells, row_start(i, at));
-    times_variable(cells, j, row, irreducibles.count, field)
+    times_variable(cells, j, row, irreducibles.count, p)
 }
 
 // The row of typeof.x_i.B_s of rank w, which is no leading monomial: a unit row if it is listed, and otherwise a product.
@@ -129,14 +128,13 @@ fn row_for(
     i: usize,
     place: usize,
     n: usize,
-    field: PrimeField,
+    p: u16,
 ) -> Coordinates
-    requires { let l = irreducibles in Cells field.p cells.now × RankedList n l ranks.now variables.now × ProductAt n l i place wanted
+    requires { let l = irreducibles in Modulus p × Cells p cells.now × RankedList n l ranks.now variables.now × ProductAt n l i place wanted
         × (Unlisted n l i place → Through n l i place) }
-    ensures { MadeRow field.p n irreducibles (tables_of cells.now) i place result }
+    ensures { MadeRow p n irreducibles (tables_of cells.now) i place result }
 {
-    let k = place_after(ranks, irreducibles.count, place + 1, wanted);
-    if k < irreducibles.count {
+    if let Some(k) = place_after(&ranks[..irreducibles.count], place + 1, wanted) {
         return Coordinates::unit(k);
     }
     product_row(
@@ -148,7 +146,7 @@ fn row_for(
         i,
         place,
         n,
-        field,
+        p,
     )
 }
 
@@ -202,17 +200,15 @@ pub fn fill(
     put_variable_ranks(&mut variables, shape.n);
     let mut next: [u64; MAX_VARIABLES] = [0; MAX_VARIABLES];
     put_first_ranks(&mut next, &ranks, &variables, irreducibles.count, shape.n);
-    let field = PrimeField::new(shape.p);
-    let mut i = next_place(&next, shape.n, 1);
-    while i < shape.n {
+    while let Some(i) = next_place(&next[..shape.n], 1) {
         let s = c.at[i];
         let w = next[i];
-        let k = rank_place(&lead_ranks, leads.count, w);
-        let row = if k < leads.count {
-            let g = line_at(counts, coefficients, exponents, k);
-            tail_row(&ranks, g, irreducibles, shape.n, shape.p)
-        } else {
-            row_for(
+        let row = match rank_place(&lead_ranks[..leads.count], w) {
+            Some(k) => {
+                let g = line_at(counts, coefficients, exponents, k);
+                tail_row(&ranks, g, irreducibles, shape.n, shape.p)
+            }
+            None => row_for(
                 &*cells,
                 &ranks,
                 &variables,
@@ -221,13 +217,12 @@ pub fn fill(
                 i,
                 s,
                 shape.n,
-                field,
-            )
+                shape.p,
+            ),
         };
         put_row(&mut *cells, row_start(i, s), row);
         c.at[i] = s + 1;
         let x = variables[i];
         next[i] = product_rank(&ranks, irreducibles.count, x, s + 1);
-        i = next_place(&next, shape.n, 1);
     }
 }

@@ -1,4 +1,4 @@
--- `fill` meets its contract. The loop's invariant: the rows below the cursors are filled, the ranks of the next products are held, and i has the smallest.
+-- `fill` meets its contract. The loop's invariant: the rows below the cursors are filled, and the ranks of the next products are held.
 use mathlib.Core.Path.{◌≡◌, refl, sym, ◌∙◌, subst}
 use Prim.Native.Nat.{ℕ, ◌≤◌, ◌<◌}
 use lib.ListN.{length, replicate}
@@ -6,6 +6,7 @@ use native.Mathlib.Omega.{arith}
 use borrow.Author.Rules.{rules}
 use Rattle.lists.proofs.Elements.{length-mapped}
 use Rattle.lists.proofs.Storing.{zeros-at}
+use Rattle.std.proofs.lemmas.List.{length-take-le}
 use Rattle.monomial.specs.Sizes.{most_variables}
 use Rattle.monomial.proofs.RankPlaces.{ranks-bounded, variables-bounded}
 use Rattle.lines.specs.Sizes.{most_standard, most_lines}
@@ -18,11 +19,11 @@ use Rattle.staircase.proofs.StoredBasis.{held-line, held-filled, held-leads}
 use Rattle.multiplication.specs.Rows.{tables_of}
 use Rattle.multiplication.specs.Tails.{TailRow}
 use Rattle.multiplication.proofs.NewRows.{RowFor}
-use Rattle.multiplication.proofs.NextProducts.{cursor, Nexts, nexts-first, nexts-bounded}
+use Rattle.multiplication.proofs.NextProducts.{cursor, Nexts, nexts-first}
 use Rattle.multiplication.proofs.RowRules.{listed-once}
 use Rattle.multiplication.proofs.AllRows.{no-rows-length, room-less}
-use Rattle.multiplication.proofs.FillLoop.{Prepared, prepared, fill_start, fill-place, fill-product, fill-line, fill-led, fill-through, fill-made, fill-nexts, fill-turn, fill_stop}
-use Rattle.multiplication.proofs.fill.fill.Goals.{After-of-leads, After-put_first_ranks, After-put_variable_ranks, In-loop-i, Joined-k-leads, Start, Then-k-leads, then-k-leads, else-k-leads}
+use Rattle.multiplication.proofs.FillLoop.{Prepared, prepared, fill_start, fill-bounded, fill-inside, fill-place, fill-product, fill-line, fill-led, fill-through, fill-made, fill-turn, fill_stop}
+use Rattle.multiplication.proofs.fill.fill.Goals.{After-of-leads, After-put_first_ranks, After-put_variable_ranks, In-Some, In-Some-rank_place, Joined-rank_place, Start, in-None, in-Some-rank_place}
 use Rattle.multiplication.proofs.fill.fill.Goals as goal
 
 -- The basis that is lent.
@@ -72,39 +73,41 @@ firsts c =
     let ranked = (known (goal.at.After-put_first_ranks c).After-put_variable_ranks).ranked in
     nexts-first _ _ ranked.ranks ranked.variables (λ i. zeros-at most_variables i 0) c.put_first_ranks.ensures
 
-pub next_place-i-requires : goal.next_place-i-requires
-next_place-i-requires c =
-    let listing = (known (goal.at.next_place-i-requires c).After-put_variable_ranks).ranked.listing in
-    (omega (arith, (firsts (goal.at.next_place-i-requires c).After-put_first_ranks).size, listing.variables), nexts-bounded listing (firsts (goal.at.next_place-i-requires c).After-put_first_ranks))
-
 pub loop-i-init : goal.loop-i-init
-loop-i-init c =
-    fill_start (known (goal.at.loop-i-init c).After-put_variable_ranks) c.requires.0 refl (firsts (goal.at.loop-i-init c).After-put_first_ranks) c.next_place-i.ensures
+loop-i-init c = fill_start (known (goal.at.loop-i-init c).After-put_variable_ranks) c.requires.0 refl (firsts (goal.at.loop-i-init c).After-put_first_ranks)
+
+pub slice_bounds-next_place-end : goal.slice_bounds-next_place-end
+slice_bounds-next_place-end c =
+    let inv = c.loop-i.invariant in
+    sym (length-take-le _ _ (omega (arith, inv.nexts.size, inv.known.ranked.listing.variables)))
+
+pub next_place-requires : goal.next_place-requires
+next_place-requires c = fill-bounded c.loop-i.invariant
 
 -- The variable and the place of the row that is filled.
-bounds : (c : In-loop-i) → let x = c.loop-i in (x.i < most_variables) × (cursor x.c x.i < most_standard)
-bounds c = fill-place c.loop-i.invariant c.loop-i-test.true
+bounds : (c : In-Some) → let i = c.in-Some.i in (i < c.args.shape.n) × (i < most_variables) × (cursor c.loop-i.c i < most_standard)
+bounds c = fill-place c.loop-i.invariant c.next_place.ensures c.in-Some.is
 
 pub offset_bounds-c-i : goal.offset_bounds-c-i
-offset_bounds-c-i c = omega (arith, fill-place c.loop-i.invariant c.loop-i-test.true)
+offset_bounds-c-i c = omega (arith, bounds c)
 
 pub bounds-c-i : goal.bounds-c-i
-bounds-c-i c = (fill-place c.loop-i.invariant c.loop-i-test.true).0
+bounds-c-i c = (bounds c).1
 
 pub offset_bounds-next-i : goal.offset_bounds-next-i
-offset_bounds-next-i c = omega (arith, bounds (goal.at.offset_bounds-next-i c).In-loop-i)
+offset_bounds-next-i c = omega (arith, bounds (goal.at.offset_bounds-next-i c).In-Some)
 
 pub bounds-next-i : goal.bounds-next-i
-bounds-next-i c = omega (arith, bounds (goal.at.bounds-next-i c).In-loop-i, c.loop-i.invariant.nexts.size)
+bounds-next-i c = omega (arith, bounds (goal.at.bounds-next-i c).In-Some, c.loop-i.invariant.nexts.size)
 
-pub rank_place-k-requires : goal.rank_place-k-requires
-rank_place-k-requires c = c.loop-i.invariant.known.lead_ranks.many
+pub slice_bounds-rank_place-end : goal.slice_bounds-rank_place-end
+slice_bounds-rank_place-end c = sym (length-take-le _ _ c.put_lead_ranks.ensures.many)
 
 -- The line that leads with the product is one of the basis.
-led : (c : Then-k-leads) → c.rank_place-k.result < c.args.shape.lines
-led c = fill-line c.loop-i.invariant c.loop-i-test.true c.rank_place-k.ensures c.if-k-leads.true
+led : (c : In-Some-rank_place) → c.in-Some-rank_place.k < c.args.shape.lines
+led c = fill-line c.loop-i.invariant c.next_place.ensures c.in-Some.is c.rank_place.ensures c.in-Some-rank_place.is
 
-few : (c : Then-k-leads) → c.rank_place-k.result < most_lines
+few : (c : In-Some-rank_place) → c.in-Some-rank_place.k < most_lines
 few c = omega (arith, led c, c.loop-i.invariant.known.given.sound.few)
 
 -- The line that is read.
@@ -121,7 +124,7 @@ tail_row-row-requires c =
     let k = c.loop-i.invariant.known in
     let sound = k.given.sound in (
       k.ranked.ranks,
-      subst (SoundLine a.shape.p a.shape.n) (sym (line-is (goal.at.tail_row-row-requires c).Start _ (few (goal.at.tail_row-row-requires c).Then-k-leads) _ c.line_at-g.ensures)) (sound.lines _ (led (goal.at.tail_row-row-requires c).Then-k-leads)),
+      subst (SoundLine a.shape.p a.shape.n) (sym (line-is (goal.at.tail_row-row-requires c).Start _ (few (goal.at.tail_row-row-requires c).In-Some-rank_place) _ c.line_at-g.ensures)) (sound.lines _ (led (goal.at.tail_row-row-requires c).In-Some-rank_place)),
       listed-once _ _ k.given.irreducibles k.full sound.modulus.prime.above_one,
       sound.variables.most,
       k.given.irreducibles.few,
@@ -131,77 +134,73 @@ tail_row-row-requires c =
 pub row_for-row-requires : goal.row_for-row-requires
 row_for-row-requires c =
     let inv = c.loop-i.invariant in
-    let hi = c.loop-i-test.true in
-    (rw c.new-field.ensures inv.filling.stored, inv.known.ranked, fill-product inv hi, fill-through inv hi c.rank_place-k.ensures c.if-k-leads.false)
+    let found = c.next_place.ensures in
+    let is = c.in-Some.is in
+    (inv.known.given.sound.modulus, inv.filling.stored, inv.known.ranked, fill-product inv found is, fill-through inv found is c.rank_place.ensures c.in-None.is)
 
 -- The row that is stored.
-row : (c : Joined-k-leads) → RowFor (lent (goal.at.Joined-k-leads c).Start) c.args.irreducibles (tables_of c.loop-i.cells) c.loop-i.i (cursor c.loop-i.c c.loop-i.i) c.if-k-leads.row
+row : (c : Joined-rank_place) → RowFor (lent (goal.at.Joined-rank_place c).Start) c.args.irreducibles (tables_of c.loop-i.cells) c.in-Some.i (cursor c.loop-i.c c.in-Some.i) c.match-rank_place.row
 row c =
     let inv = c.loop-i.invariant in
-    let hi = c.loop-i-test.true in
-    let is = RowFor (lent (goal.at.Joined-k-leads c).Start) c.args.irreducibles (tables_of c.loop-i.cells) c.loop-i.i (cursor c.loop-i.c c.loop-i.i) in
-    elim c.if-k-leads.branch [
-      | then-k-leads w ↦
+    let found = c.next_place.ensures in
+    let next = c.in-Some.is in
+    let is = RowFor (lent (goal.at.Joined-rank_place c).Start) c.args.irreducibles (tables_of c.loop-i.cells) c.in-Some.i (cursor c.loop-i.c c.in-Some.i) in
+    elim c.match-rank_place.branch [
+      | in-Some-rank_place w ↦
+          let s = w.in-Some-rank_place.is in
           subst is (sym w.row-is)
-          (fill-led inv hi c.rank_place-k.ensures w.if-k-leads.true
-          (subst (λ g. TailRow c.args.shape.p c.args.shape.n g c.args.irreducibles w.tail_row-row.result) (line-is (goal.at.Joined-k-leads c).Start _ (omega (arith, fill-line inv hi c.rank_place-k.ensures w.if-k-leads.true, inv.known.given.sound.few)) _ w.line_at-g.ensures) w.tail_row-row.ensures))
-      | else-k-leads w ↦ subst is (sym w.row-is) (fill-made inv hi c.rank_place-k.ensures (rw c.new-field.ensures at w.row_for-row.ensures))
+          (fill-led inv found next c.rank_place.ensures s
+          (subst (λ g. TailRow c.args.shape.p c.args.shape.n g c.args.irreducibles w.tail_row-row.result) (line-is (goal.at.Joined-rank_place c).Start _ (omega (arith, fill-line inv found next c.rank_place.ensures s, inv.known.given.sound.few)) _ w.line_at-g.ensures) w.tail_row-row.ensures))
+      | in-None w ↦ subst is (sym w.row-is) (fill-made inv found next c.rank_place.ensures w.in-None.is w.row_for-row.ensures)
     ]
 
 pub put_row-requires : goal.put_row-requires
-put_row-requires c = omega (arith, c.row_start.ensures, bounds (goal.at.put_row-requires c).In-loop-i, c.loop-i.invariant.filling.stored.size)
+put_row-requires c = omega (arith, c.row_start.ensures, bounds (goal.at.put_row-requires c).In-Some, c.loop-i.invariant.filling.stored.size)
+
+pub row_start-requires : goal.row_start-requires
+row_start-requires c = omega (arith, bounds (goal.at.row_start-requires c).In-Some)
 
 pub overflow_add-c : goal.overflow_add-c
-overflow_add-c c = omega (arith, bounds (goal.at.overflow_add-c c).In-loop-i)
+overflow_add-c c = omega (arith, bounds (goal.at.overflow_add-c c).In-Some)
 
-pub offset_bounds-c-i-in-loop-i : goal.offset_bounds-c-i-in-loop-i
-offset_bounds-c-i-in-loop-i c = omega (arith, bounds (goal.at.offset_bounds-c-i-in-loop-i c).In-loop-i)
+pub offset_bounds-c-i-in-Some : goal.offset_bounds-c-i-in-Some
+offset_bounds-c-i-in-Some c = omega (arith, bounds (goal.at.offset_bounds-c-i-in-Some c).In-Some)
 
-pub bounds-c-i-in-loop-i : goal.bounds-c-i-in-loop-i
-bounds-c-i-in-loop-i c = (bounds (goal.at.bounds-c-i-in-loop-i c).In-loop-i).0
+pub bounds-c-i-in-Some : goal.bounds-c-i-in-Some
+bounds-c-i-in-Some c = (bounds (goal.at.bounds-c-i-in-Some c).In-Some).1
 
 pub offset_bounds-variables-i : goal.offset_bounds-variables-i
-offset_bounds-variables-i c = omega (arith, bounds (goal.at.offset_bounds-variables-i c).In-loop-i)
+offset_bounds-variables-i c = omega (arith, bounds (goal.at.offset_bounds-variables-i c).In-Some)
 
 pub bounds-variables-i : goal.bounds-variables-i
-bounds-variables-i c = omega (arith, bounds (goal.at.bounds-variables-i c).In-loop-i)
+bounds-variables-i c = omega (arith, bounds (goal.at.bounds-variables-i c).In-Some)
 
 pub overflow_add-s : goal.overflow_add-s
-overflow_add-s c = omega (arith, bounds (goal.at.overflow_add-s c).In-loop-i)
+overflow_add-s c = omega (arith, bounds (goal.at.overflow_add-s c).In-Some)
 
 pub product_rank-requires : goal.product_rank-requires
 product_rank-requires c =
     let ranked = c.loop-i.invariant.known.ranked in
     let n = ranked.listing.variables in
-    (ranked.ranks.many, ranks-bounded _ n ranked.ranks, variables-bounded _ n ranked.variables _ c.loop-i-test.true)
+    (ranked.ranks.many, ranks-bounded _ n ranked.ranks, variables-bounded _ n ranked.variables _ (bounds (goal.at.product_rank-requires c).In-Some).0)
 
-pub offset_bounds-next-i-in-loop-i : goal.offset_bounds-next-i-in-loop-i
-offset_bounds-next-i-in-loop-i c = omega (arith, bounds (goal.at.offset_bounds-next-i-in-loop-i c).In-loop-i)
+pub offset_bounds-next-i-in-Some : goal.offset_bounds-next-i-in-Some
+offset_bounds-next-i-in-Some c = omega (arith, bounds (goal.at.offset_bounds-next-i-in-Some c).In-Some)
 
-pub bounds-next-i-in-loop-i : goal.bounds-next-i-in-loop-i
-bounds-next-i-in-loop-i c = omega (arith, bounds (goal.at.bounds-next-i-in-loop-i c).In-loop-i, c.loop-i.invariant.nexts.size)
-
-pub next_place-i-requires-in-loop-i : goal.next_place-i-requires-in-loop-i
-next_place-i-requires-in-loop-i c =
-    let inv = c.loop-i.invariant in
-    let m = fill-nexts inv c.loop-i-test.true c.product_rank.ensures in
-    let listing = inv.known.ranked.listing in
-    (omega (arith, m.size, listing.variables), nexts-bounded listing m)
+pub bounds-next-i-in-Some : goal.bounds-next-i-in-Some
+bounds-next-i-in-Some c = omega (arith, bounds (goal.at.bounds-next-i-in-Some c).In-Some, c.loop-i.invariant.nexts.size)
 
 pub loop-i-smaller : goal.loop-i-smaller
 loop-i-smaller c =
     let inv = c.loop-i.invariant in
-    room-less _ _ _ (omega (arith, inv.filling.cursors, bounds (goal.at.loop-i-smaller c).In-loop-i)) (inv.best.some c.loop-i-test.true)
+    room-less _ _ _ (omega (arith, inv.filling.cursors, bounds (goal.at.loop-i-smaller c).In-Some)) (fill-inside inv c.next_place.ensures c.in-Some.is)
 
 pub loop-i-preserved : goal.loop-i-preserved
 loop-i-preserved c =
-    fill-turn c.loop-i.invariant c.loop-i-test.true c.product_rank.ensures (row (goal.at.loop-i-preserved c).Joined-k-leads) (rw c.row_start.ensures at c.put_row.ensures) c.next_place-i-in-loop-i.ensures
+    fill-turn c.loop-i.invariant c.next_place.ensures c.in-Some.is c.product_rank.ensures (row (goal.at.loop-i-preserved c).Joined-rank_place) (rw c.row_start.ensures at c.put_row.ensures)
 
 pub shape_of-cells : goal.shape_of-cells
 shape_of-cells c = c.loop-i.invariant.filling.stored.size ∙ sym (no-rows-length c.requires.0)
 
 pub returns : goal.returns
-returns c = fill_stop c.loop-i.invariant c.loop-i-test.false
-
-pub row_start-requires : goal.row_start-requires
-row_start-requires c = bounds (goal.at.row_start-requires c).In-loop-i
+returns c = fill_stop c.loop-i.invariant c.next_place.ensures c.in_default.is

@@ -10,11 +10,11 @@ use Rattle.multiplication.proofs.fill.subtract_at.Goals as goal
 pub sub-requires : goal.sub-requires
 sub-requires c = let (b, h, m, l) = c.requires in (b.below _, h, m)
 
-pub returns-then-at-count : goal.returns-then-at-count
-returns-then-at-count c =
+pub returns-in-Some : goal.returns-in-Some
+returns-in-Some c =
     let (b, h, m, l) = c.requires in
     let size : length c.args.r.c ≡ most_standard = search (length-mapped, rules) in
-    subtracted-at b size c.if-at-count.true l c.sub.ensures
+    subtracted-at b c.in-Some.is size (l _ c.in-Some.is) c.sub.ensures
 
-pub returns-else-at-count : goal.returns-else-at-count
-returns-else-at-count c = subtracted-nowhere c.requires.0 c.if-at-count.false
+pub returns-in_default : goal.returns-in_default
+returns-in_default c = subtracted-nowhere c.requires.0 c.in_default.is
