@@ -5,7 +5,7 @@
 --   terms n g               the terms of a generator
 --   terms-printed-length    their number
 --   term-stands             the term at a place
---   exponent_lists n k ms   the rows of the first k monomials
+--   exponent_lists n ms     the rows of monomials
 --   rows-printed-length     their number
 --   exponents-stand         the row at a place
 use Prim.Native.Nat.{ℕ, zero, suc, ◌≤◌, ◌<◌, min}
@@ -65,14 +65,13 @@ term-stands n j g c m h =
     let e : get_or (terms n g) j d ≡ get_or l j d = get_or-take g.terms l j d (omega arith) in
     stands_at (terms n g) j _ d (sym (e ∙ all-at n j g.coefficients g.monomials c m d (omega arith))) h
 
--- The rows of the first k monomials.
-abbrev pub exponent_lists : ℕ → ℕ → List Monomial → List (List ℕ)
-exponent_lists n k ms = map (exponents_of n) (take k ms)
+-- The rows of monomials.
+abbrev pub exponent_lists : ℕ → List Monomial → List (List ℕ)
+exponent_lists n ms = map (exponents_of n) ms
 
-pub rows-printed-length : (n k : ℕ) (ms : List Monomial) → k ≤ length ms → length (exponent_lists n k ms) ≡ k
-rows-printed-length n k ms h = length-map (take k ms) (exponents_of n) ∙ length-take-le k ms h
+pub rows-printed-length : (n : ℕ) (ms : List Monomial) → length (exponent_lists n ms) ≡ length ms
+rows-printed-length n ms = length-map ms (exponents_of n)
 
-pub exponents-stand : (n k j : ℕ) (ms : List Monomial) (m : Monomial) → j < k → j < length (exponent_lists n k ms) → StandsAt (exponent_lists n k ms) j (exponents_of n (get_or ms j m))
-exponents-stand n k j ms m h i =
-    let e : get_or (exponent_lists n k ms) j (exponents_of n m) ≡ exponents_of n (get_or (take k ms) j m) = get_or-map (exponents_of n) (take k ms) j m in
-    stands_at (exponent_lists n k ms) j _ (exponents_of n m) (sym (e ∙ ap (exponents_of n) (get_or-take k ms j m h))) i
+pub exponents-stand : (n j : ℕ) (ms : List Monomial) (m : Monomial) → j < length ms → StandsAt (exponent_lists n ms) j (exponents_of n (get_or ms j m))
+exponents-stand n j ms m h =
+    stands_at (exponent_lists n ms) j _ (exponents_of n m) (sym (get_or-map (exponents_of n) ms j m)) (omega (arith, rows-printed-length n ms))

@@ -1,8 +1,8 @@
 -- Inner contracts. The lines that values of the code are printed as.
 --   generator_line n g     the line of a basis
---   standard_line n k ms   the first k of the monomials ms, as a line
+--   standard_line n ms     monomials, as a line
 --   count_line w v         the word w and the number v, with LF: a runs line or an end line
-use Rattle.std.specs.Prelude.{ℕ, List, [], ◌∷◌, ◌++◌, map, take}
+use Rattle.std.specs.Prelude.{ℕ, List, [], ◌∷◌, ◌++◌, map}
 use Rattle.lists.specs.Lists.{Bytes}
 use Rattle.monomial.specs.declared.Monomial.{Monomial}
 use Rattle.lines.specs.LineTerms.{exponents_of, terms_in}
@@ -15,10 +15,10 @@ unfoldable pub generator_line : ℕ → Generator → TextLine
 unfolding terms_in
 generator_line n g = generator (terms_in n g)
 
--- The first k of the monomials.
-unfoldable pub standard_line : ℕ → ℕ → List Monomial → TextLine
+-- The line of monomials.
+unfoldable pub standard_line : ℕ → List Monomial → TextLine
 unfolding exponents_of
-standard_line n k ms = standard (map (exponents_of n) (take k ms))
+standard_line n ms = standard (map (exponents_of n) ms)
 
 -- A word and a number, with LF.
 unfoldable pub count_line : Bytes → ℕ → Bytes

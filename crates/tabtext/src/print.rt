@@ -13,7 +13,7 @@
 //   print_count                a runs line or an end line
 ghost use Rattle.std.specs.Prelude.{◌≡◌, ◌∷◌, ℕ, ◌+◌, ◌*◌, ◌≤◌, ◌<◌, length, get_or};
 ghost use Rattle.monomial.specs.Sizes.{most_variables, VariableCount};
-ghost use Rattle.lines.specs.Sizes.{most_standard, most_terms};
+ghost use Rattle.lines.specs.Sizes.{most_terms};
 ghost use Rattle.lines.specs.LineTerms.{exponents_of};
 ghost use Rattle.tabtext.specs.Text.{Number, header, decimal, dotted, term};
 ghost use Rattle.tabtext.specs.Printed.{generator_line, standard_line, printed, count_line};
@@ -21,7 +21,6 @@ ghost use Rattle.tabtext.specs.Printed.{generator_line, standard_line, printed, 
 use crate::number::print_number;
 use crate::sink::Sink;
 use lines::line::Generator;
-use lines::sizes::MAX_STANDARD;
 use monomial::{Exponent, Monomial};
 use residue::Residue;
 
@@ -76,6 +75,7 @@ pub fn print_generator<S: Sink>(sink: &mut S, g: Generator, n: usize)
     ensures short { length (printed (generator_line n g)) ≤ 5 + 31 * most_terms }
 {
     sink.put_bytes(b"poly");
+    // A loop of its own: a term is taken from two arrays, a field of the stairs line from one slice.
     for j in 0..g.terms {
         sink.put(b'\t');
         print_term(&mut *sink, g.coefficients[j], g.monomials[j], n);
@@ -83,20 +83,15 @@ pub fn print_generator<S: Sink>(sink: &mut S, g: Generator, n: usize)
     sink.put(b'\n');
 }
 
-pub fn print_standard<S: Sink>(
-    sink: &mut S,
-    monomials: [Monomial; MAX_STANDARD],
-    count: usize,
-    n: usize,
-)
-    requires { (count ≤ most_standard) × VariableCount n × S.takes sink.old (length (printed (standard_line n count monomials))) }
-    ensures printed { sink.new ≡ S.after sink.old (printed (standard_line n count monomials)) }
-    ensures short { length (printed (standard_line n count monomials)) ≤ 7 + 25 * most_standard }
+pub fn print_standard<S: Sink>(sink: &mut S, monomials: &[Monomial], n: usize)
+    requires { VariableCount n × S.takes sink.old (length (printed (standard_line n monomials.now))) }
+    ensures printed { sink.new ≡ S.after sink.old (printed (standard_line n monomials.now)) }
+    ensures short { length (printed (standard_line n monomials.now)) ≤ 7 + 25 * length monomials.now }
 {
     sink.put_bytes(b"stairs");
-    for j in 0..count {
+    for m in monomials {
         sink.put(b'\t');
-        print_exponents(&mut *sink, monomials[j], n);
+        print_exponents(&mut *sink, *m, n);
     }
     sink.put(b'\n');
 }
