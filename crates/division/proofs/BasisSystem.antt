@@ -17,8 +17,7 @@ use mathlib.Core.Logic.{inl, inr}
 use Prim.Native.Nat.{ℕ, zero, suc, ◌≤◌, ◌<◌}
 use native.Mathlib.Omega.{arith}
 use borrow.Author.Tests.{ltb-false}
-use lib.ListN.{length, get_or, take, get_or-map}
-use lib.Seq.{length-take-le, get_or-take}
+use lib.ListN.{length, get_or, get_or-map}
 use Rattle.std.specs.Prelude.{Some, None, position, nat_lt}
 use Rattle.std.specs.List.{position_or_len}
 use Rattle.std.proofs.lemmas.List.Quantifiers.{position-Some}
@@ -42,7 +41,7 @@ use Rattle.groebner.proofs.NormalForms.{Rewriting}
 use Rattle.groebner.proofs.Instance.{ground}
 use Rattle.lines.specs.Bases.{StoredBasis}
 use Rattle.staircase.specs.StoredLines.{stored_lines}
-use Rattle.staircase.specs.Leads.{rows_of, LeadsOf}
+use Rattle.staircase.specs.Leads.{LeadsOf}
 use Rattle.staircase.specs.Sound.{generator_at, Sound}
 use Rattle.staircase.proofs.ArrayRows.{no_monomial, rows_at}
 use Rattle.staircase.proofs.LineElements.{WithinArrays, stored-lines-length, line-at}
@@ -90,35 +89,27 @@ module _ (b : StoredBasis) (sound : Sound b) (h : 1 < b.p) where
   pub line-lead-at : (k : ℕ) → k < b.lines → (line_at b h k).0 ≡ lead_at b k
   line-lead-at k l = line-lead b.p h b.n (generator_at b k) (sound.lines k l)
 
-  module _ (count : ℕ) (ms : List Monomial) (leads : LeadsOf b count ms) where
-    lead-stored : (j : ℕ) → j < b.lines → get_or (rows_of b.n count ms) j (one b.n) ≡ lead_at b j
-    lead-stored j l = ap (λ L. get_or L j (one b.n)) (leads.1 h) ∙ get_or-map (λ g. g.0) (stored_lines b h) j (one b.n, [])
+  module _ (ms : List Monomial) (leads : LeadsOf b ms) where
+    lead-stored : (j : ℕ) → j < b.lines → row b.n (get_or ms j no_monomial) ≡ lead_at b j
+    lead-stored j l = sym (rows_at b.n ms j) ∙ ap (λ L. get_or L j (one b.n)) (leads.1 h) ∙ get_or-map (λ g. g.0) (stored_lines b h) j (one b.n, [])
         ∙ ap (λ g. g.0) (line-at b h j l) ∙ line-lead-at j l
 
-    lead-taken : (j : ℕ) → j < b.lines → row b.n (get_or (take count ms) j no_monomial) ≡ lead_at b j
-    lead-taken j l =
-        let h : j < count = omega (arith, leads.0) in
-        ap (row b.n) (get_or-take count ms j no_monomial h) ∙ sym (rows_at b.n count ms j h) ∙ lead-stored j l
-
-    module _ (full : b.lines ≤ length ms) (m : Row b.n) where
+    module _ (m : Row b.n) where
       -- The test of a stored leading monomial.
       abbrev test : Monomial → Bool
       test d = divides b.n (row b.n d) m
 
-      taken : length (take count ms) ≡ b.lines
-      taken = length-take-le count ms (omega (arith, leads.0, full)) ∙ leads.0
+      tested : (j : ℕ) → j < b.lines → divides b.n (lead_at b j) m ≡ test (get_or ms j no_monomial)
+      tested j l = ap (λ x. divides b.n x m) (sym (lead-stored j l))
 
-      tested : (j : ℕ) → j < b.lines → divides b.n (lead_at b j) m ≡ test (get_or (take count ms) j no_monomial)
-      tested j l = ap (λ x. divides b.n x m) (sym (lead-taken j l))
-
-      pub first-line : (k : ℕ) → position test (take count ms) ≡ Some k → FirstDivisor b m k
+      pub first-line : (k : ℕ) → position test ms ≡ Some k → FirstDivisor b m k
       first-line k e =
-          let (within, here, before) = position-Some test (take count ms) k no_monomial e in
-          let l : k < b.lines = omega (arith, taken) in
+          let (within, here, before) = position-Some test ms k no_monomial e in
+          let l : k < b.lines = omega (arith, leads.0) in
           record { within = l; before = λ j i. tested j (omega arith) ∙ before j i; here = tested k l ∙ here }
 
-      pub no-line : position test (take count ms) ≡ None → NoDivisor b m
-      no-line e j l = tested j l ∙ position-none test (take count ms) no_monomial e j (omega (arith, taken))
+      pub no-line : position test ms ≡ None → NoDivisor b m
+      no-line e j l = tested j l ∙ position-none test ms no_monomial e j (omega (arith, leads.0))
 
   module _ (filled : WithinArrays b) where
     pub lines-low : Low (Grevlex b.n) (stored_lines b h)

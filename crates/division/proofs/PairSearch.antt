@@ -12,6 +12,7 @@ use Rattle.std.specs.Prelude.{Some, None}
 use borrow.Author.Count.{below_more}
 use lib.ListN.{length, get_or}
 use Rattle.lines.specs.Bases.{StoredBasis}
+use Rattle.staircase.proofs.SmallestLine.{smallest-found, smallest-none}
 use Rattle.division.specs.GrevlexPlace.{place, space}
 use Rattle.division.specs.CoefficientArray.{Work}
 use Rattle.division.specs.PairRemainders.{Pairable, PairableOn, PairFails, PairSays, EarlierSays, FirstFailing}
@@ -86,9 +87,7 @@ module _ {b : StoredBasis} {w₀ w : List ℕ} {j : ℕ} (s : LinesPassed b w₀
     }
 
     pub lines-found : r ≡ true → FirstFailing b (Some (j + 2))
-    lines-found q h =
-        let places = failing-places b h s.filled in
-        ((places (j + 2)).1 (j, refl, l, (a.verdict h).0 q), λ k m f. let (i, e, g, fails) = (places k).0 f in s.passed i (omega arith) h fails)
+    lines-found q h = smallest-found (failing-places b h s.filled) j l ((a.verdict h).0 q) (λ k i. s.passed k i h)
 
   pub lines-stop : b.lines ≤ j → FirstFailing b None
-  lines-stop l h k f = let (i, e, g, fails) = (failing-places b h s.filled k).0 f in s.passed i (omega arith) h fails
+  lines-stop l h = smallest-none (failing-places b h s.filled) (λ k i. s.passed k (omega arith) h)

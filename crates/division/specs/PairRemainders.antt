@@ -10,7 +10,7 @@
 --   EarlierSays b j w' fails   whether it has for line j and an earlier line i; likewise
 --   FailingLine b h k          check 15 speaks of line k of the text
 --   FirstFailing b r           r is the number of the first line of which it speaks, if it speaks of one
-use Rattle.std.specs.Prelude.{ℕ, ◌≤◌, ◌<◌, ◌≡◌, Bool, true, false, Option, Some, None, List, [], ◌++◌, ◌↔◌}
+use Rattle.std.specs.Prelude.{ℕ, ◌≤◌, ◌<◌, ◌≡◌, Bool, true, false, Option, List, [], ◌++◌, ◌↔◌}
 use Rattle.residue.specs.Modular.{negation_mod}
 use Rattle.residue.specs.Field.{ZMod, modulo}
 use Rattle.monomial.specs.Rows.{Row, degree}
@@ -23,6 +23,7 @@ use Rattle.lines.specs.Bases.{StoredBasis}
 use Rattle.staircase.specs.StoredLines.{stored_lines}
 use Rattle.staircase.specs.Sound.{Sound}
 use Rattle.staircase.specs.Conditions.{Failing}
+use Rattle.staircase.specs.LeastNumber.{Smallest}
 use Rattle.division.specs.GrevlexPlace.{most_degree}
 use Rattle.division.specs.CoefficientArray.{HoldsZero, Work}
 use Rattle.division.specs.Clearing.{lead_at, line_at, multiple_of, line_multiple}
@@ -84,7 +85,6 @@ pub record EarlierSays (b : StoredBasis) (j : ℕ) (w' : List ℕ) (fails : Bool
 abbrev pub FailingLine : (b : StoredBasis) → 1 < b.p → ℕ → Type 0
 FailingLine b h = Failing (modulo b.p h) (monomials b.n) (stored_lines b h) (Grevlex b.n)
 
--- The answer of check 15: the smallest line of which it speaks.
+-- The answer of check 15: the smallest line of which it speaks, if it speaks of one.
 abbrev pub FirstFailing : StoredBasis → Option ℕ → Type 0
-FirstFailing b (Some r) = (h : 1 < b.p) → FailingLine b h r × ((k : ℕ) → k < r → ¬ FailingLine b h k)
-FirstFailing b None = (h : 1 < b.p) (k : ℕ) → ¬ FailingLine b h k
+FirstFailing b r = (h : 1 < b.p) → Smallest (FailingLine b h) r

@@ -4,13 +4,12 @@
 //   add_line                the multiple of a line whose leading monomial is given is added
 //   earliest                the earliest leading monomial that divides a monomial
 //   sweep                   all monomials in turn, from the greatest down
-ghost use Rattle.std.specs.Prelude.{◌≡◌, true, [], ◌∷◌, ◌≤◌, take, position};
+ghost use Rattle.std.specs.Prelude.{◌≡◌, true, [], ◌∷◌, ◌≤◌, position};
 ghost use Rattle.residue.specs.Field.{residue};
 ghost use Rattle.monomial.specs.Sizes.{most_variables};
 ghost use Rattle.monomial.specs.Rows.{product};
 ghost use Rattle.monomial.specs.Quotients.{divides};
 ghost use Rattle.monomial.specs.Represented.{row};
-ghost use Rattle.lines.specs.Sizes.{most_lines};
 ghost use Rattle.lines.specs.Bases.{basis_in, Stored};
 ghost use Rattle.staircase.specs.Sound.{monomial_at, SoundLine};
 ghost use Rattle.division.specs.CoefficientArray.{Addend, AddsPolynomial};
@@ -22,7 +21,7 @@ use lines::line::Generator;
 use lines::store::line_at;
 use monomial::Monomial;
 use residue::Residue;
-use staircase::leads::Leads;
+use staircase::leads::leads_of;
 
 // c·m is added.
 fn add_term(work: &mut [u16], c: Residue, m: Monomial, p: u16, n: usize)
@@ -56,13 +55,11 @@ pub fn add_line(work: &mut [u16], c: Residue, m: Monomial, g: Generator, p: u16,
 }
 
 // The place of the earliest leading monomial that divides m.
-fn earliest(leads: Leads, m: Monomial, n: usize) -> Option<usize>
-    requires { (leads.count ≤ most_lines) × (n ≤ most_variables) }
-    ensures { result ≡ position (λ d. divides n (row n d) (row n m)) (take leads.count leads.monomials) }
+fn earliest(leads: &[Monomial], m: Monomial, n: usize) -> Option<usize>
+    requires { n ≤ most_variables }
+    ensures { result ≡ position (λ d. divides n (row n d) (row n m)) leads.now }
 {
-    leads.monomials[..leads.count]
-        .iter()
-        .position(|d| d.divides(m, n))
+    leads.iter().position(|d| d.divides(m, n))
 }
 
 // Whether the remainder of what the array holds is zero: each monomial in turn, from the greatest down, is cleared by the earliest line that divides it.
@@ -78,13 +75,13 @@ pub fn sweep(
     requires { Stored shape counts.now coefficients.now exponents.now (λ b. Dividend b work.old (row b.n top)) }
     ensures { Sweeps (basis_in shape counts.now coefficients.now exponents.now) work.old work.new result }
 {
-    let leads = Leads::of(exponents, shape.lines);
+    let leads = leads_of(exponents, shape.lines);
     let mut m = top;
     for at in (0..place(top, shape.n)).rev() {
         m = before(m, shape.n);
         let c = Residue(work[at]);
         if !c.is_zero() {
-            let Some(k) = earliest(leads, m, shape.n) else {
+            let Some(k) = earliest(&leads, m, shape.n) else {
                 return false;
             };
             let g = line_at(counts, coefficients, exponents, k);

@@ -1,13 +1,8 @@
 -- `sweep` meets its contract. The loop's invariant: the array is divided down to m.
-use mathlib.Core.Path.{◌≡◌, sym, ◌∙◌}
-use Prim.Native.Nat.{◌≤◌}
+use mathlib.Core.Path.{sym, ◌∙◌}
 use native.Mathlib.Omega.{arith}
-use borrow.Author.Rules.{rules}
 use borrow.Author.Tests.{eqb-true, eqb-false}
-use lib.ListN.{length}
-use Rattle.lists.proofs.Elements.{length-mapped}
 use Rattle.monomial.specs.Represented.{row}
-use Rattle.lines.specs.Sizes.{most_lines}
 use Rattle.lines.specs.Bases.{StoredBasis, basis_in}
 use Rattle.staircase.specs.Leads.{LeadsOf}
 use Rattle.staircase.proofs.StoredBasis.{held-filled, held-leads}
@@ -15,28 +10,22 @@ use Rattle.division.proofs.StoredLines.{sound-read, divides-read, adds-read}
 use Rattle.division.proofs.BasisSystem.{FirstDivisor, first-line, no-line}
 use Rattle.division.proofs.ClearedMonomials.{clears-idle, clears-subtracted, clears-stuck}
 use Rattle.division.proofs.SweptArrays.{swept-start, swept-low, swept-place, swept-turn, swept-true, swept-false}
-use Rattle.division.proofs.division.sweep.Goals.{After-of-leads, In-Some, Start}
+use Rattle.division.proofs.division.sweep.Goals.{After-leads_of-leads, In-Some, Start}
 use Rattle.division.proofs.division.sweep.Goals as goal
 
 -- The basis that is lent.
 abbrev lent : Start → StoredBasis
 lent c = basis_in c.args.shape c.args.counts.now c.args.coefficients.now c.args.exponents.now
 
--- The leading monomials are those of the basis, and each line has one.
-full : (c : After-of-leads) → c.args.shape.lines ≤ length c.of-leads.result.monomials
-full c =
-    let l : length c.of-leads.result.monomials ≡ most_lines = search (length-mapped, rules) in
-    omega (arith, c.requires.basis.sound.few)
-
-stored : (c : After-of-leads) → LeadsOf (lent (goal.at.After-of-leads c).Start) c.of-leads.result.count c.of-leads.result.monomials
-stored c = held-leads c.args.shape _ _ _ c.requires.basis.sound _ _ c.of-leads.ensures (omega (arith, full c, c.of-leads.ensures.0))
+-- The leading monomials are those of the basis.
+stored : (c : After-leads_of-leads) → LeadsOf (lent (goal.at.After-leads_of-leads c).Start) c.leads_of-leads.result.items
+stored c = held-leads c.args.shape _ _ _ c.requires.basis.sound _ c.leads_of-leads.ensures
 
 -- The earliest line that divides the monomial of this turn.
 first : (c : In-Some) → FirstDivisor (lent (goal.at.In-Some c).Start) (row c.args.shape.n c.before-m.result) c.in-Some.k
 first c =
     let s = c.loop-at.invariant in
-    let l = (goal.at.In-Some c).After-of-leads in
-    first-line _ s.sound s.work.modulus.prime.above_one _ _ (stored l) (full l) _ _ (sym c.earliest.ensures ∙ c.in-Some.is)
+    first-line _ s.sound s.work.modulus.prime.above_one _ (stored (goal.at.In-Some c).After-leads_of-leads) _ _ (rw c.deref.ensures.0 at (sym c.earliest.ensures ∙ c.in-Some.is))
 
 pub loop-at-init : goal.loop-at-init
 loop-at-init c =
@@ -47,8 +36,8 @@ pub returns-in_default : goal.returns-in_default
 returns-in_default c =
     let s = c.loop-at.invariant in
     let e = c.before-m.ensures in
-    let l = (goal.at.returns-in_default c).After-of-leads in
-    let none = no-line _ s.sound s.work.modulus.prime.above_one _ _ (stored l) (full l) _ (sym c.earliest.ensures ∙ c.in_default.is) in
+    let l = stored (goal.at.returns-in_default c).After-leads_of-leads in
+    let none = no-line _ s.sound s.work.modulus.prime.above_one _ l _ (rw c.deref.ensures.0 at (sym c.earliest.ensures ∙ c.in_default.is)) in
     swept-false s _ e (clears-stuck _ _ (swept-place s _ e) (eqb-false _ _ (sym c.is_zero.ensures ∙ c.if-not-is_zero.true)) none)
 
 pub add_line-requires : goal.add_line-requires
