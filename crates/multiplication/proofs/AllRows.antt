@@ -27,7 +27,8 @@ use Rattle.lines.specs.Sizes.{most_standard}
 use Rattle.lines.specs.Bases.{StoredBasis}
 use Rattle.staircase.specs.StoredLines.{stored_lines}
 use Rattle.staircase.specs.Listed.{listed}
-use Rattle.staircase.specs.declared.irreducible.Irreducibles.{Irreducibles}
+use Rattle.monomial.specs.declared.Monomial.{Monomial}
+use Rattle.staircase.proofs.ArrayRows.{rows-length}
 use Rattle.coordinates.specs.Vectors.{coordinates_of}
 use Rattle.coordinates.specs.Rows.{RowPut}
 use Rattle.coordinates.specs.declared.Coordinates.{Coordinates}
@@ -38,7 +39,7 @@ use Rattle.multiplication.specs.declared.fill.Cursors.{Cursors}
 use Rattle.multiplication.proofs.NewRows.{RowFor}
 use Rattle.multiplication.proofs.NextProducts.{cursor, BestAt, Best}
 use Rattle.multiplication.proofs.RowFilling.{RowProgress, progress-none, progress-more}
-use Rattle.multiplication.proofs.RowRules.{listed-length, listed-irreducible}
+use Rattle.multiplication.proofs.RowRules.{listed-irreducible}
 use Rattle.multiplication.proofs.Merging.{best-smaller}
 
 unfoldable pub cursor_room : List ℕ → ℕ → ℕ
@@ -54,12 +55,12 @@ room-less (a ∷ l) n (suc i) h u = omega (arith, room-less l n i (omega arith) 
 pub no-rows-length : {cells : List ℕ} → NoRows cells → length cells ≡ most_cells
 no-rows-length e = ap length e ∙ length-replicate {A = ℕ} most_cells 0
 
-pub record Filling (b : StoredBasis) (l : Irreducibles) (t : Tables) (c : Cursors) : Type 0 where
+pub record Filling (b : StoredBasis) (l : List Monomial) (t : Tables) (c : Cursors) : Type 0 where
   pub stored : Cells b.p t.cells
   pub cursors : length c.at ≡ most_variables
   pub progress : (h : 1 < b.p) → RowProgress (modulo b.p h) b.n (stored_lines b h) (listed b.n l) (one b.n) (Grevlex b.n) (cell_of b.p h t) (cursor c)
 
-pub filling-none : {b : StoredBasis} {l : Irreducibles} {t : Tables} {c : Cursors} → 0 < b.p → NoRows t.cells → c.at ≡ replicate most_variables 0 → Filling b l t c
+pub filling-none : {b : StoredBasis} {l : List Monomial} {t : Tables} {c : Cursors} → 0 < b.p → NoRows t.cells → c.at ≡ replicate most_variables 0 → Filling b l t c
 filling-none {b} {l} {t} {c} o e f = record {
   stored = record { size = no-rows-length e; below = record { cell = λ q. omega (arith, o, ap (λ (a : List ℕ). get_or a q 0) e ∙ zeros-at most_cells q 0) } };
   cursors = ap length f ∙ length-replicate {A = ℕ} most_variables 0;
@@ -67,7 +68,7 @@ filling-none {b} {l} {t} {c} o e f = record {
       (λ i u. ap (λ (a : List ℕ). get_or a i 0) f ∙ zeros-at most_variables i 0);
 }
 
-module _ {b : StoredBasis} {l : Irreducibles} {t : Tables} {c : Cursors} (so_far : Filling b l t c) (given : Fillable b l) (full : l.count ≤ length l.monomials) where
+module _ {b : StoredBasis} {l : List Monomial} {t : Tables} {c : Cursors} (so_far : Filling b l t c) (given : Fillable b l) where
   open given use {sound, irreducibles, low}
 
   module _ {i : ℕ} (best : BestAt b.n l c i) where
@@ -95,18 +96,18 @@ module _ {b : StoredBasis} {l : Irreducibles} {t : Tables} {c : Cursors} (so_far
         stored = record { size = put.size ∙ so_far.stored.size; below = record { cell = below' } };
         cursors = length-set c.at i _ ∙ so_far.cursors;
         progress = λ h. progress-more (residue-ring b.p h) b.n (grevlex-order b.n) (stored_lines b h) (low h) (listed b.n l) (one b.n)
-            (λ k u. listed-irreducible b l irreducibles full h k (omega (arith, listed-length b l irreducibles full h))) (so_far.progress h)
-            i (cursor c i) hi (omega (arith, best.has, listed-length b l irreducibles full h)) refl
-            (best-smaller h b.n (stored_lines b h) l c i (listed-length b l irreducibles full h) (irreducibles.lists h).rising best)
+            (λ k u. listed-irreducible b l irreducibles h k (omega (arith, rows-length b.n l))) (so_far.progress h)
+            i (cursor c i) hi (omega (arith, best.has, rows-length b.n l)) refl
+            (best-smaller h b.n (stored_lines b h) l c i (irreducibles.lists h).rising best)
             (coordinates_of b.p h w) (new.rule h) (cell_of b.p h t')
-            (λ k u. ap (residue b.p h) (put-here put k (omega (arith, irreducibles.few, listed-length b l irreducibles full h))))
-            (λ j r hj hr k u. ap (residue b.p h) (there j r (λ q. apart h j r hj hr q) k (omega (arith, irreducibles.few, listed-length b l irreducibles full h))))
+            (λ k u. ap (residue b.p h) (put-here put k (omega (arith, irreducibles.few, rows-length b.n l))))
+            (λ j r hj hr k u. ap (residue b.p h) (there j r (λ q. apart h j r hj hr q) k (omega (arith, irreducibles.few, rows-length b.n l))))
             (cursor c') (get_or-set_same c.at i _ 0 (omega (arith, so_far.cursors, sound.variables.most)) ∙ add-one _) (λ j hj q. get_or-set_other c.at i j _ 0 q);
       }
         where
           apart : (h : 1 < b.p) (j r : ℕ) → j < b.n → r < cursor c j → ¬ (j * most_standard + r ≡ i * most_standard + cursor c i)
           apart h j r hj hr q =
-              let u : r < most_standard = omega (arith, (so_far.progress h).within j hj, listed-length b l irreducibles full h, irreducibles.few) in
+              let u : r < most_standard = omega (arith, (so_far.progress h).within j hj, rows-length b.n l, irreducibles.few) in
               let v : cursor c i < most_standard = omega (arith, best.has, irreducibles.few) in
               let e : j ≡ i = omega arith in
               let f : cursor c j ≡ cursor c i = ap (cursor c) e in

@@ -2,9 +2,11 @@
 --   fillable-listing   the list is one of at most 32 monomials in at most 4 variables
 --   Prepared           what is known when it begins: the list and the leading monomials with their ranks
 --   prepared           so it is
+--   all-bounded        the ranks of the list are bounded
 --   FillLoop           what holds at its head
 --   fill_start         before the first turn
 --   fill-bounded       the ranks of the next products are bounded
+--   fill-distinct      no monomial stands twice in the list
 --   fill-inside        a row of the variable is to be filled
 --   fill-place         the variable and the place of the row that is filled next
 --   fill-product       the product that it is of
@@ -14,7 +16,7 @@
 --   fill-made          the row, where none does
 --   fill-turn          a turn
 --   fill_stop          after the last turn
-use mathlib.Core.Path.{◌≡◌}
+use mathlib.Core.Path.{◌≡◌, sym, subst}
 use mathlib.Core.List.{List}
 use Prim.Native.Nat.{ℕ, ◌+◌, ◌≤◌, ◌<◌}
 use native.Mathlib.Omega.{arith}
@@ -23,63 +25,68 @@ use Rattle.std.specs.Prelude.{Option, Some, None}
 use Rattle.monomial.specs.Sizes.{most_variables}
 use Rattle.monomial.specs.Rows.{product}
 use Rattle.monomial.specs.Quotients.{variable}
-use Rattle.monomial.specs.Ranks.{RanksOf, VariableRanks, FirstRank, Bounded, NextRank}
+use Rattle.monomial.specs.Ranks.{RanksOf, VariableRanks, FirstRank, RisingRanks, Bounded, NextRank}
+use Rattle.monomial.proofs.RankPlaces.{ranks-bounded}
 use Rattle.lines.specs.Sizes.{most_standard}
 use Rattle.lines.specs.Bases.{StoredBasis}
 use Rattle.staircase.specs.Leads.{rows_of, LeadsOf}
 use Rattle.staircase.specs.Sound.{generator_at}
-use Rattle.staircase.specs.Listed.{listed, listed_at}
-use Rattle.staircase.specs.declared.irreducible.Irreducibles.{Irreducibles}
-use Rattle.staircase.specs.declared.leads.Leads.{Leads}
-use Rattle.staircase.proofs.RankedLists.{FoundPlace, rank-place, ranks-rising}
+use Rattle.staircase.specs.Listed.{listed, listed_at, PlaceAt, Place}
+use Rattle.monomial.specs.declared.Monomial.{Monomial}
+use Rattle.staircase.proofs.ArrayRows.{rows-length}
+use Rattle.staircase.proofs.RankedLists.{ranks-rising}
 use Rattle.coordinates.specs.Rows.{RowPut}
 use Rattle.coordinates.specs.declared.Coordinates.{Coordinates}
 use Rattle.multiplication.specs.Rows.{NoRows, row_start, tables_of}
-use Rattle.multiplication.specs.Tails.{TailRow}
+use Rattle.multiplication.specs.Tails.{TailRow, DistinctRanks}
 use Rattle.multiplication.specs.Rules.{Unlisted, Through, MadeRow}
 use Rattle.multiplication.specs.RankedLists.{Listing, RankedList, ProductAt, ProductRank}
 use Rattle.multiplication.specs.Filling.{Fillable, FilledRows}
 use Rattle.multiplication.specs.declared.fill.Cursors.{Cursors}
+use Rattle.multiplication.proofs.ListPlaces.{list-place}
 use Rattle.multiplication.proofs.NewRows.{RowFor}
 use Rattle.multiplication.proofs.RankQuotients.{product-short}
 use Rattle.multiplication.proofs.NextProducts.{cursor, Nexts, BestAt, Best, nexts-more, nexts-front, nexts-best}
-use Rattle.multiplication.proofs.RowRules.{listed-length, comes-through, row_made, row-led}
+use Rattle.multiplication.proofs.RowRules.{listed-once, comes-through, row_made, row-led}
 use Rattle.multiplication.proofs.AllRows.{Filling, filling-none, filling-more, filling-all}
 
-pub fillable-listing : {b : StoredBasis} {l : Irreducibles} → Fillable b l → Listing b.n l
+pub fillable-listing : {b : StoredBasis} {l : List Monomial} → Fillable b l → Listing b.n l
 fillable-listing given = record { variables = given.sound.variables.most; few = given.irreducibles.few; exponents = given.irreducibles.exponents }
 
 -- The list has the ranks rs, the variables xs, and the leading monomials gs.
-pub record Prepared (b : StoredBasis) (l : Irreducibles) (rs xs : List ℕ) (leads : Leads) (gs : List ℕ) : Type 0 where
+pub record Prepared (b : StoredBasis) (l : List Monomial) (rs xs : List ℕ) (leads : List Monomial) (gs : List ℕ) : Type 0 where
   pub given : Fillable b l
-  pub full : l.count ≤ length l.monomials
   pub lines : b.lines ≤ length b.generators
   pub ranked : RankedList b.n l rs xs
-  pub are : LeadsOf b leads.count leads.monomials
-  pub lead_ranks : RanksOf b.n (rows_of b.n leads.count leads.monomials) leads.count gs
+  pub are : LeadsOf b leads
+  pub lead_size : length gs ≡ length leads
+  pub lead_ranks : RanksOf b.n (rows_of b.n leads) (length leads) gs
 
-pub prepared : {b : StoredBasis} {l : Irreducibles} {rs xs : List ℕ} {leads : Leads} {gs : List ℕ} → Fillable b l → l.count ≤ length l.monomials → b.lines ≤ length b.generators
-    → RanksOf b.n (listed b.n l) l.count rs → VariableRanks b.n xs → LeadsOf b leads.count leads.monomials
-    → RanksOf b.n (rows_of b.n leads.count leads.monomials) leads.count gs → Prepared b l rs xs leads gs
-prepared {b} {l} given full lines ranks variables are lead_ranks =
+pub prepared : {b : StoredBasis} {l : List Monomial} {rs xs : List ℕ} {leads : List Monomial} {gs : List ℕ} → Fillable b l → b.lines ≤ length b.generators
+    → (length rs ≡ length l) × RanksOf b.n (listed b.n l) (length l) rs → VariableRanks b.n xs → LeadsOf b leads
+    → (length gs ≡ length leads) × RanksOf b.n (rows_of b.n leads) (length leads) gs → Prepared b l rs xs leads gs
+prepared {b} {l} given lines (size, ranks) variables are (lead_size, lead_ranks) =
     let h = given.sound.modulus.prime.above_one in
-    let rising = ranks-rising _ ranks (given.irreducibles.lists h).rising (listed-length b l given.irreducibles full h) in
+    let rising = subst (RisingRanks _) (sym size) (ranks-rising _ ranks (given.irreducibles.lists h).rising (rows-length b.n l)) in
     record {
       given = given;
-      full = full;
       lines = lines;
-      ranked = record { listing = fillable-listing given; ranks = ranks; rising = rising; variables = variables };
+      ranked = record { listing = fillable-listing given; size = size; ranks = ranks; rising = rising; variables = variables };
       are = are;
+      lead_size = lead_size;
       lead_ranks = lead_ranks;
     }
 
+pub all-bounded : {n : ℕ} {l : List Monomial} {rs xs : List ℕ} → RankedList n l rs xs → Bounded rs (length rs)
+all-bounded {n} ranked k u = ranks-bounded n ranked.listing.variables ranked.ranks k (omega (arith, u, ranked.size))
+
 -- The rows below the cursors are filled, and the ranks of the next products are held.
-pub record FillLoop (b : StoredBasis) (l : Irreducibles) (rs xs : List ℕ) (leads : Leads) (gs cells : List ℕ) (c : Cursors) (next : List ℕ) : Type 0 where
+pub record FillLoop (b : StoredBasis) (l : List Monomial) (rs xs : List ℕ) (leads : List Monomial) (gs cells : List ℕ) (c : Cursors) (next : List ℕ) : Type 0 where
   pub known : Prepared b l rs xs leads gs
   pub filling : Filling b l (tables_of cells) c
   pub nexts : Nexts b.n l c next
 
-module _ {b : StoredBasis} {l : Irreducibles} {rs xs : List ℕ} {leads : Leads} {gs cells : List ℕ} {c : Cursors} {next : List ℕ} where
+module _ {b : StoredBasis} {l : List Monomial} {rs xs : List ℕ} {leads : List Monomial} {gs cells : List ℕ} {c : Cursors} {next : List ℕ} where
   pub fill_start : Prepared b l rs xs leads gs → NoRows cells → c.at ≡ replicate most_variables 0 → Nexts b.n l c next → FillLoop b l rs xs leads gs cells c next
   fill_start known none z nexts = record {
     known = known;
@@ -93,13 +100,20 @@ module _ {b : StoredBasis} {l : Irreducibles} {rs xs : List ℕ} {leads : Leads}
     pub fill-bounded : Bounded (take b.n next) (length (take b.n next))
     fill-bounded = nexts-front known.ranked.listing nexts
 
+    pub fill-distinct : DistinctRanks b.n l rs
+    fill-distinct = record {
+      size = known.ranked.size;
+      ranks = known.ranked.ranks;
+      once = listed-once b l known.given.irreducibles known.given.sound.modulus.prime.above_one;
+    }
+
     -- The place of the least of the ranks.
     module _ {first : Option ℕ} (found : NextRank (take b.n next) 1 first (length (take b.n next))) where
       best : Best b.n l c first
       best = nexts-best known.ranked.listing nexts found
 
       pub fill_stop : first ≡ None → FilledRows b l cells
-      fill_stop e = record { stored = filling.stored; filled = filling-all filling known.given known.full best e }
+      fill_stop e = record { stored = filling.stored; filled = filling-all filling known.given best e }
 
       module _ {i : ℕ} (is : first ≡ Some i) where
         at_i : BestAt b.n l c i
@@ -108,7 +122,7 @@ module _ {b : StoredBasis} {l : Irreducibles} {rs xs : List ℕ} {leads : Leads}
         hi : i < b.n
         hi = at_i.within
 
-        pub fill-inside : cursor c i < l.count
+        pub fill-inside : cursor c i < length l
         fill-inside = at_i.has
 
         pub fill-place : (i < b.n) × (i < most_variables) × (cursor c i < most_standard)
@@ -118,29 +132,31 @@ module _ {b : StoredBasis} {l : Irreducibles} {rs xs : List ℕ} {leads : Leads}
         fill-product = record { within = hi; inside = fill-inside; rank = nexts.held i hi fill-inside }
 
         -- By the first place of the product's rank among those of the leading monomials.
-        module _ {r : Option ℕ} (ranked : FirstRank (take leads.count gs) (length (take leads.count gs)) (get_or next i 0) r) where
-          lead : FoundPlace b.n (rows_of b.n leads.count leads.monomials) leads.count (product b.n (variable b.n i) (listed_at b.n l (cursor c i))) r
-          lead = rank-place _ known.lead_ranks (nexts.held i hi fill-inside, product-short known.ranked.listing _ fill-inside _ hi) ranked
+        module _ {r : Option ℕ} (ranked : FirstRank gs (length gs) (get_or next i 0) r) where
+          lead : Place b.n (rows_of b.n leads) (product b.n (variable b.n i) (listed_at b.n l (cursor c i))) r
+          lead = list-place _ leads known.lead_size known.lead_ranks (nexts.held i hi fill-inside, product-short known.ranked.listing _ fill-inside _ hi) _ ranked
 
           module _ {k : ℕ} (s : r ≡ Some k) where
+            led : PlaceAt b.n (rows_of b.n leads) (product b.n (variable b.n i) (listed_at b.n l (cursor c i))) k
+            led = rw s at lead
+
             pub fill-line : k < b.lines
-            fill-line = omega (arith, lead.some k s, known.are.0)
+            fill-line = omega (arith, led.within, rows-length b.n leads, known.are.0)
 
             pub fill-led : {w : Coordinates} → TailRow b.p b.n (generator_at b k) l w → RowFor b l (tables_of cells) i (cursor c i) w
-            fill-led = let (u, p) = lead.some k s in
-                row-led b known.given.sound l known.given.irreducibles known.full known.lines leads known.are (tables_of cells) i (cursor c i) hi fill-inside p u
+            fill-led = row-led b known.given.sound l known.given.irreducibles known.lines leads known.are (tables_of cells) i (cursor c i) hi fill-inside led
 
           module _ (s : r ≡ None) where
             pub fill-through : Unlisted b.n l i (cursor c i) → Through b.n l i (cursor c i)
-            fill-through = comes-through b known.given.sound l known.given.irreducibles known.full known.lines leads known.are (tables_of cells) i (cursor c i) hi fill-inside (lead.none s) (omega arith)
+            fill-through = comes-through b known.given.sound l known.given.irreducibles known.lines leads known.are (tables_of cells) i (cursor c i) hi fill-inside (rw s at lead)
 
             pub fill-made : {w : Coordinates} → MadeRow b.p b.n l (tables_of cells) i (cursor c i) w → RowFor b l (tables_of cells) i (cursor c i) w
-            fill-made = row_made b known.given.sound l known.given.irreducibles known.full known.lines leads known.are (tables_of cells) i (cursor c i) hi fill-inside (lead.none s)
+            fill-made = row_made b known.given.sound l known.given.irreducibles known.lines leads known.are (tables_of cells) i (cursor c i) hi fill-inside
 
-        module _ {r : ℕ} (rank : ProductRank rs l.count (get_or xs i 0) (cursor c i + 1) r) where
+        module _ {r : ℕ} (rank : ProductRank rs (get_or xs i 0) (cursor c i + 1) r) where
           fill-nexts : Nexts b.n l (record { at = set c.at i (cursor c i + 1) }) (set next i r)
-          fill-nexts = nexts-more _ _ known.ranked.ranks known.ranked.variables nexts i hi fill-place.1 filling.cursors r rank
+          fill-nexts = nexts-more _ _ known.ranked.size known.ranked.ranks known.ranked.variables nexts i hi fill-place.1 filling.cursors r rank
 
           pub fill-turn : {w : Coordinates} {cells' : List ℕ} → RowFor b l (tables_of cells) i (cursor c i) w → RowPut cells (row_start i (cursor c i)) w cells'
               → FillLoop b l rs xs leads gs cells' (record { at = set c.at i (cursor c i + 1) }) (set next i r)
-          fill-turn new put = record { known = known; filling = filling-more filling known.given known.full at_i new put; nexts = fill-nexts }
+          fill-turn new put = record { known = known; filling = filling-more filling known.given at_i new put; nexts = fill-nexts }

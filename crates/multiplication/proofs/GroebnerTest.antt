@@ -27,17 +27,17 @@ use Rattle.lines.specs.Bases.{StoredBasis}
 use Rattle.staircase.specs.StoredLines.{stored_lines}
 use Rattle.staircase.specs.Sound.{Sound}
 use Rattle.staircase.specs.Listed.{listed}
-use Rattle.staircase.specs.declared.irreducible.Irreducibles.{Irreducibles}
+use Rattle.monomial.specs.declared.Monomial.{Monomial}
+use Rattle.staircase.proofs.ArrayRows.{rows-length}
 use Rattle.staircase.proofs.LineElements.{stored-lines-length}
 use Rattle.multiplication.specs.Rows.{tables_of, cell_of, Tables}
 use Rattle.multiplication.specs.Filling.{Fillable, FilledRows}
 use Rattle.multiplication.specs.Criterion.{Candidate, Acceptance}
-use Rattle.multiplication.proofs.RowRules.{listed-length}
 
 abbrev prime_at : (b : StoredBasis) → Sound b → 1 < b.p → Prime b.p
 prime_at b sound h = record { above_one = h; no_divisor = sound.modulus.prime.no_divisor }
 
-module _ {b : StoredBasis} {l : Irreducibles} (candidate : Candidate b l) where
+module _ {b : StoredBasis} {l : List Monomial} (candidate : Candidate b l) where
   open candidate use {sound, irreducibles, lines, clear, zero_dimensional}
 
   low : (h : 1 < b.p) → Low (Grevlex b.n) (stored_lines b h)
@@ -50,10 +50,10 @@ module _ {b : StoredBasis} {l : Irreducibles} (candidate : Candidate b l) where
     abbrev t : Tables
     t = tables_of cells
 
-    rows-decide : l.count ≤ length l.monomials → (h : 1 < b.p)
-        → RowsCommute (modulo b.p h) b.n l.count (cell_of b.p h t) ↔ Groebner (modulo b.p h) (monomials b.n) (Grevlex b.n) (stored_lines b h)
-    rows-decide full h =
-        let size = listed-length b l irreducibles full h in
+    rows-decide : (h : 1 < b.p)
+        → RowsCommute (modulo b.p h) b.n (length l) (cell_of b.p h t) ↔ Groebner (modulo b.p h) (monomials b.n) (Grevlex b.n) (stored_lines b h)
+    rows-decide h =
+        let size = rows-length b.n l in
         subst (λ d. RowsCommute (modulo b.p h) b.n d (cell_of b.p h t) ↔ Groebner (modulo b.p h) (monomials b.n) (Grevlex b.n) (stored_lines b h)) size
         (rows-commute-iff b.n (ground b.p (prime_at b sound h) b.n) (grevlex-order b.n) (stored_lines b h) (low h) (listed b.n l) (one b.n) (cell_of b.p h t) (clear h)
         (lists-once (grevlex-order b.n) (λ m. ¬ Reducible (monomials b.n) (stored_lines b h) m) (listed b.n l) (irreducibles.lists h))
@@ -67,8 +67,8 @@ module _ {b : StoredBasis} {l : Irreducibles} (candidate : Candidate b l) where
       filled = rows.filled;
     }
 
-    pub acceptance : l.count ≤ length l.monomials → ((h : 1 < b.p) → (r ≡ true) ↔ RowsCommute (modulo b.p h) b.n l.count (cell_of b.p h t)) → Acceptance b l r t
-    acceptance full test = answered (λ h. Iff.trans (test h) (rows-decide full h))
+    pub acceptance : ((h : 1 < b.p) → (r ≡ true) ↔ RowsCommute (modulo b.p h) b.n (length l) (cell_of b.p h t)) → Acceptance b l r t
+    acceptance test = answered (λ h. Iff.trans (test h) (rows-decide h))
 
     pub square-acceptance : b.lines ≤ length b.generators → b.lines ≡ b.n → r ≡ true → Acceptance b l r t
     square-acceptance held square e = answered (λ h. (

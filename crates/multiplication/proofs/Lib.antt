@@ -4,6 +4,7 @@
 --   CommutingRows  rows that commute, by their coefficients
 --   NewRows        the three rules for the row of x_i·B_s
 --   RowFilling     the rows of the products x_i·B_s, filled in rising order
+--   ListPlaces     the place of a rank among those of a list
 --   RankQuotients  the ranks of products with a variable and of quotients by one
 --   TailTerms      the tail of a line of the code, term by term
 --   Passing        the test of `is_detour`
@@ -19,6 +20,7 @@ pub mod RowSums
 pub mod CommutingRows
 pub mod NewRows
 pub mod RowFilling
+pub mod ListPlaces
 pub mod RankQuotients
 pub mod TailTerms
 pub mod TailRows

@@ -14,16 +14,17 @@ use Rattle.monomial.specs.Ordering.{Grevlex, monomials}
 use Rattle.monomial.proofs.GrevlexOrder.{grevlex-order}
 use Rattle.groebner.specs.Lines.{Line, RisingList}
 use Rattle.staircase.specs.Listed.{listed, listed_at}
-use Rattle.staircase.specs.declared.irreducible.Irreducibles.{Irreducibles}
+use Rattle.monomial.specs.declared.Monomial.{Monomial}
+use Rattle.staircase.proofs.ArrayRows.{rows-length}
 use Rattle.staircase.proofs.RisingPlaces.{rising-at}
 use Rattle.multiplication.proofs.NextProducts.{cursor, next_product, BestAt}
 use Rattle.multiplication.specs.declared.fill.Cursors.{Cursors}
 use Rattle.multiplication.proofs.RowFilling.{SmallerFilled}
 
-pub best-smaller : {p : ℕ} (h : 1 < p) (n : ℕ) (G : List (Line (ZMod p) (Row n))) (l : Irreducibles) (c : Cursors) (i : ℕ) → length (listed n l) ≡ l.count → RisingList (Grevlex n) (listed n l)
+pub best-smaller : {p : ℕ} (h : 1 < p) (n : ℕ) (G : List (Line (ZMod p) (Row n))) (l : List Monomial) (c : Cursors) (i : ℕ) → RisingList (Grevlex n) (listed n l)
     → BestAt n l c i → SmallerFilled (modulo p h) n G (listed n l) (one n) (Grevlex n) (cursor c) i (cursor c i)
 unfolding monomials
-best-smaller h n G l c i e rising best j r hj hr lt = by_cases (dec_lt r (cursor c j)) (λ u. u) (λ u. absurd (best.least j hj (omega arith) (below u)))
+best-smaller h n G l c i rising best j r hj hr lt = by_cases (dec_lt r (cursor c j)) (λ u. u) (λ u. absurd (best.least j hj (omega (arith, rows-length n l)) (below u)))
   where
     below : ¬ (r < cursor c j) → Grevlex n (next_product n l c j) (next_product n l c i)
     below u = by_cases (ℕ_discrete (cursor c j) r)

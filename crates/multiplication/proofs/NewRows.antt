@@ -17,7 +17,7 @@ use Rattle.groebner.specs.MultiplicationRows.{times_variable}
 use Rattle.lines.specs.Bases.{StoredBasis}
 use Rattle.staircase.specs.StoredLines.{stored_lines}
 use Rattle.staircase.specs.Listed.{listed}
-use Rattle.staircase.specs.declared.irreducible.Irreducibles.{Irreducibles}
+use Rattle.monomial.specs.declared.Monomial.{Monomial}
 use Rattle.coordinates.specs.Vectors.{Below, coordinates_of}
 use Rattle.coordinates.specs.declared.Coordinates.{Coordinates}
 use Rattle.multiplication.specs.Rows.{cell_of, Tables}
@@ -35,6 +35,6 @@ module _ {F : Type 0} (R : Arithmetic F) (n : ℕ) (G : List (Line F (Row n))) (
         → ((k : ℕ) → k < length B → w k ≡ times_variable R (length B) cell j (cell i t) k) → NewRow cell i s w
 
 -- r is the row of x_i·B_s by one of the rules, over the rows of the tables t.
-pub record RowFor (b : StoredBasis) (l : Irreducibles) (t : Tables) (i s : ℕ) (r : Coordinates) : Type 0 where
+pub record RowFor (b : StoredBasis) (l : List Monomial) (t : Tables) (i s : ℕ) (r : Coordinates) : Type 0 where
   pub below : Below b.p r
   pub rule : (h : 1 < b.p) → NewRow (modulo b.p h) b.n (stored_lines b h) (listed b.n l) (one b.n) (cell_of b.p h t) i s (coordinates_of b.p h r)

@@ -13,7 +13,7 @@ use mathlib.Core.Logic.{◌↔◌, by_cases}
 use Prim.Native.Nat.{ℕ, ◌+◌, ◌-◌, ◌≤◌, ◌<◌}
 use native.Mathlib.Decide.{ℕ_discrete}
 use native.Mathlib.Omega.{arith}
-use lib.ListN.{get_or}
+use lib.ListN.{length, get_or}
 use Rattle.monomial.specs.Represented.{most_entry}
 use Rattle.monomial.specs.Rows.{Row, exponent, product}
 use Rattle.monomial.specs.Quotients.{quotient, divides, variable}
@@ -25,7 +25,7 @@ use Rattle.monomial.proofs.Variables.{variable-fits}
 use Rattle.monomial.proofs.RankOrder.{rank_less, rank-injective, rank-product}
 use Rattle.groebner.proofs.Variables.{variable-above}
 use Rattle.staircase.specs.Listed.{listed_at}
-use Rattle.staircase.specs.declared.irreducible.Irreducibles.{Irreducibles}
+use Rattle.monomial.specs.declared.Monomial.{Monomial}
 use Rattle.multiplication.specs.Passes.{Detour}
 use Rattle.multiplication.specs.RankedLists.{Listing, RankedList, ProductAt}
 use Rattle.multiplication.specs.Rules.{PassesBy, SomePasses, Through}
@@ -37,7 +37,7 @@ divided-by n m j h = (
       (λ e. rw e (omega (arith, exponent-power n j 1 h))) (λ e. omega (arith, exponent-power-other n j 1 k e))),
 )
 
-module _ {n : ℕ} {l : Irreducibles} (listing : Listing n l) (s : ℕ) (hs : s < l.count) where
+module _ {n : ℕ} {l : List Monomial} (listing : Listing n l) (s : ℕ) (hs : s < length l) where
   listed-short : Short n (listed_at n l s)
   listed-short = record { short = λ k u. omega (arith, listing.exponents s hs k u) }
 
@@ -69,7 +69,7 @@ module _ {n : ℕ} {l : Irreducibles} (listing : Listing n l) (s : ℕ) (hs : s 
     through-rank i d = omega (arith, rank-product n (variable n i) (quotient n (listed_at n l s) (variable n j)), rank-product n (variable n i) (listed_at n l s), quotient-rank d)
 
 -- By the ranks of the list and of the variables, and the rank w of x_i·B_s.
-module _ {n : ℕ} {l : Irreducibles} {ranks variables : List ℕ} (ranked : RankedList n l ranks variables) {i s w : ℕ} (of : ProductAt n l i s w) where
+module _ {n : ℕ} {l : List Monomial} {ranks variables : List ℕ} (ranked : RankedList n l ranks variables) {i s w : ℕ} (of : ProductAt n l i s w) where
   module _ (j : ℕ) (hj : j < n) where
     of-through : divides n (variable n j) (listed_at n l s) ≡ true → rank_of n (product n (variable n i) (quotient n (listed_at n l s) (variable n j))) + get_or variables j 0 ≡ w
     of-through d = omega (arith, of.rank, ranked.variables.rank j hj, through-rank ranked.listing s of.inside j i d)
@@ -80,18 +80,20 @@ module _ {n : ℕ} {l : Irreducibles} {ranks variables : List ℕ} (ranked : Ran
     difference : divides n (variable n j) (listed_at n l s) ≡ true → rank_of n (product n (variable n i) (quotient n (listed_at n l s) (variable n j))) ≡ w - get_or variables j 0
     difference d = omega (arith, of-through d)
 
-    pub passes-by : PassesBy ranks l.count (exponent n (listed_at n l s) j) w (get_or variables j 0) ↔ Detour n l (listed_at n l s) i j
+    pub passes-by : PassesBy ranks (exponent n (listed_at n l s) j) w (get_or variables j 0) ↔ Detour n l (listed_at n l s) i j
     passes-by = let are = ranked.ranks in (
       λ p. let d = (divided-by n (listed_at n l s) j hj).1 p.divisor in record {
         divisor = d;
-        outside = λ k u e. p.outside k u (are.rank k u ∙ ap (rank_of n) e ∙ difference d);
+        outside = λ k u e. p.outside k (omega (arith, u, ranked.size)) (are.rank k u ∙ ap (rank_of n) e ∙ difference d);
       },
       λ p. record {
         divisor = (divided-by n (listed_at n l s) j hj).0 p.divisor;
-        outside = λ k u e. p.outside k u (rank-injective n _ _ (are.short k u) (through-short ranked.listing s of.inside j i of.within)
-            (sym (are.rank k u) ∙ e ∙ sym (difference p.divisor)));
+        outside = λ k u e.
+            let v : k < length l = omega (arith, u, ranked.size) in
+            p.outside k v (rank-injective n _ _ (are.short k v) (through-short ranked.listing s of.inside j i of.within)
+            (sym (are.rank k v) ∙ e ∙ sym (difference p.divisor)));
       },
     )
 
-  pub some-passes : Through n l i s → SomePasses n (listed_at n l s) ranks variables l.count w
+  pub some-passes : Through n l i s → SomePasses n (listed_at n l s) ranks variables w
   some-passes through = let (j, hj, p) = through.some in record { least = variable-least; some = (j, hj, (passes-by j hj).1 p) }

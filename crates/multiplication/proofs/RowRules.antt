@@ -1,5 +1,4 @@
 -- The three rules for the row of x_i·B_s, by the answers of the code.
---   listed-length        the number of the monomials that are listed
 --   listed-irreducible   what is listed is irreducible
 --   irreducible-listed   what is irreducible is listed
 --   listed-once          no monomial stands twice in the list
@@ -20,9 +19,10 @@ use mathlib.Core.List.{List, []}
 use mathlib.Core.Logic.Dec
 use mathlib.Core.Logic.{by_cases}
 use Prim.Native.Nat.{ℕ, ◌≤◌, ◌<◌}
-use native.Mathlib.Decide.{ℕ_discrete, dec_lt}
+use native.Mathlib.Decide.{ℕ_discrete}
 use native.Mathlib.Omega.{arith}
 use lib.ListN.{length, get_or, get_or-map}
+use Rattle.std.specs.Prelude.{None}
 use Rattle.lists.specs.Lists.{◌∈◌}
 use Rattle.lists.proofs.Elements.{element-in, place_of, at_once}
 use Rattle.residue.specs.Field.{ZMod, modulo, residue}
@@ -47,9 +47,8 @@ use Rattle.staircase.specs.TermLines.{line_of}
 use Rattle.staircase.specs.StoredLines.{stored_lines}
 use Rattle.staircase.specs.Leads.{rows_of, LeadsOf}
 use Rattle.staircase.specs.Sound.{Sound, generator_at}
-use Rattle.staircase.specs.Listed.{listed, listed_at, Place, ListsIrreducibles}
-use Rattle.staircase.specs.declared.leads.Leads.{Leads}
-use Rattle.staircase.specs.declared.irreducible.Irreducibles.{Irreducibles}
+use Rattle.staircase.specs.Listed.{listed, listed_at, PlaceAt, Place, ListsIrreducibles}
+use Rattle.monomial.specs.declared.Monomial.{Monomial}
 use Rattle.staircase.proofs.ArrayRows.{rows-length}
 use Rattle.staircase.proofs.LineElements.{stored-lines-length, line-at}
 use Rattle.coordinates.specs.Vectors.{coordinate, indicator, coordinates_of}
@@ -64,7 +63,7 @@ use Rattle.multiplication.proofs.NewRows.{NewRow, RowFor}
 use Rattle.multiplication.proofs.NewRows.NewRow.{new_unit, new_tail, new_product}
 use Rattle.multiplication.proofs.RowSums.{multiply-row}
 
-module _ (b : StoredBasis) (l : Irreducibles) (irreducibles : ListsIrreducibles b l) (full : l.count ≤ length l.monomials) (h : 1 < b.p) where
+module _ (b : StoredBasis) (l : List Monomial) (irreducibles : ListsIrreducibles b l) (h : 1 < b.p) where
   abbrev n : ℕ
   n = b.n
 
@@ -77,29 +76,23 @@ module _ (b : StoredBasis) (l : Irreducibles) (irreducibles : ListsIrreducibles 
   abbrev at : ℕ → Row n
   at k = listed_at n l k
 
-  pub listed-length : length B ≡ l.count
-  listed-length = rows-length n l.count l.monomials full
+  pub listed-irreducible : (k : ℕ) → k < length l → ¬ Reducible (monomials n) G (at k)
+  listed-irreducible k m = (irreducibles.lists h).only (at k) (element-in (one n) B k (omega (arith, m, rows-length n l)))
 
-  pub listed-irreducible : (k : ℕ) → k < l.count → ¬ Reducible (monomials n) G (at k)
-  listed-irreducible k m = (irreducibles.lists h).only (at k) (element-in (one n) B k (omega (arith, listed-length)))
+  pub irreducible-listed : (m : Row n) → ¬ Reducible (monomials n) G m → (k : ℕ) × (k < length l) × (at k ≡ m)
+  irreducible-listed m r = let p = place_of (one n) ((irreducibles.lists h).all m r) in (p.0, omega (arith, p.1, rows-length n l), p.2)
 
-  pub irreducible-listed : (m : Row n) → ¬ Reducible (monomials n) G m → (k : ℕ) × (k < l.count) × (at k ≡ m)
-  irreducible-listed m r = let p = place_of (one n) ((irreducibles.lists h).all m r) in (p.0, omega (arith, p.1, listed-length), p.2)
-
-  pub listed-once : (j k : ℕ) → j < l.count → k < l.count → at j ≡ at k → j ≡ k
-  listed-once j k u v e = at_once (one n) B (rising-once (grevlex-order n) B (irreducibles.lists h).rising) j k (omega (arith, listed-length)) (omega (arith, listed-length)) e
+  pub listed-once : (j k : ℕ) → j < length l → k < length l → at j ≡ at k → j ≡ k
+  listed-once j k u v e = at_once (one n) B (rising-once (grevlex-order n) B (irreducibles.lists h).rising) j k (omega (arith, u, rows-length n l)) (omega (arith, v, rows-length n l)) e
 
   reducible-dec : (m : Row n) → Dec (Reducible (monomials n) G m)
   reducible-dec m = Dec.of_iff (reducible-iff n G m) (Bool-discrete _ true)
 
-  pub reducible-outside : (m : Row n) → ((k : ℕ) → k < l.count → ¬ (at k ≡ m)) → Reducible (monomials n) G m
+  pub reducible-outside : (m : Row n) → ((k : ℕ) → k < length l → ¬ (at k ≡ m)) → Reducible (monomials n) G m
   reducible-outside m out = by_cases (reducible-dec m) (λ r. r) (λ r. let (k, u, e) = irreducible-listed m r in absurd (out k u e))
 
-  place-outside : {m : Row n} (r : ℕ) → Place n B l.count m r → l.count ≤ r → Reducible (monomials n) G m
-  place-outside {m} r q u = reducible-outside m (λ k v. q.first k (omega arith))
-
-  pub place_inside : {m : Row n} (r : ℕ) → Place n B l.count m r → ¬ Reducible (monomials n) G m → r < l.count
-  place_inside {m} r q u = by_cases (dec_lt r l.count) (λ v. v) (λ v. absurd (u (place-outside r q (omega arith))))
+  pub place_inside : {m : Row n} → ¬ Reducible (monomials n) G m → ¬ Place n B m None
+  place_inside {m} u none = u (reducible-outside m (λ k v. none k (omega (arith, v, rows-length n l))))
 
   module _ (cell : ℕ → ℕ → ℕ → ZMod b.p) (i s : ℕ) where
     abbrev x : Row n
@@ -109,16 +102,16 @@ module _ (b : StoredBasis) (l : Irreducibles) (irreducibles : ListsIrreducibles 
     abbrev RuleFor : Coordinates → Type 0
     RuleFor w = NewRow (modulo b.p h) n G B (one n) cell i s (coordinates_of b.p h w)
 
-    pub row-unit : (k : ℕ) → k < l.count → at k ≡ x → (w : Coordinates) → ((j : ℕ) → coordinate w j ≡ indicator j k) → RuleFor w
+    pub row-unit : (k : ℕ) → k < length l → at k ≡ x → (w : Coordinates) → ((j : ℕ) → coordinate w j ≡ indicator j k) → RuleFor w
     unfolding coordinates_of
     row-unit k u here w c = new_unit (subst (λ m. ¬ Reducible (monomials n) G m) here (listed-irreducible k u))
         (λ j v. ap (residue b.p h) (c j) ∙ by_cases (ℕ_discrete j k)
         (λ p. rw p (ap (residue b.p h) (indicator-same k) ∙ residue-one b.p h
         ∙ sym (ap (δ (modulo b.p h) (monomials n) (at k)) (sym here) ∙ δ-same (residue-ring b.p h) (monomials n) (at k))))
         (λ p. ap (residue b.p h) (indicator-other j k p) ∙ residue-zero b.p h
-        ∙ sym (δ-other (residue-ring b.p h) (monomials n) (at j) x (λ f. p (listed-once j k (omega (arith, listed-length)) u (f ∙ sym here))))))
+        ∙ sym (δ-other (residue-ring b.p h) (monomials n) (at j) x (λ f. p (listed-once j k (omega (arith, v, rows-length n l)) u (f ∙ sym here))))))
 
-    module _ (lines : b.lines ≤ length b.generators) (leads : Leads) (are : LeadsOf b leads.count leads.monomials) where
+    module _ (lines : b.lines ≤ length b.generators) (leads : List Monomial) (are : LeadsOf b leads) where
       line : ℕ → Line (ZMod b.p) (Row n)
       line g = line_of b.p h n (terms_in n (generator_at b g))
 
@@ -126,25 +119,24 @@ module _ (b : StoredBasis) (l : Irreducibles) (irreducibles : ListsIrreducibles 
       unfolding line
       line-in g u = subst (λ f. f ∈ G) (line-at b h g u) (element-in (one n, []) G g (omega (arith, stored-lines-length b h lines)))
 
-      line_first : (g : ℕ) → g < b.lines → get_or (rows_of n leads.count leads.monomials) g (one n) ≡ (line g).0
+      line_first : (g : ℕ) → g < b.lines → get_or (rows_of n leads) g (one n) ≡ (line g).0
       unfolding line
       line_first g u = ap (λ (L : List (Row n)). get_or L g (one n)) (are.1 h)
           ∙ get_or-map (λ (f : Line (ZMod b.p) (Row n)). f.0) G g (one n, []) ∙ ap (λ (f : Line (ZMod b.p) (Row n)). f.0) (line-at b h g u)
 
-      module _ {k : ℕ} (place : Place n (rows_of n leads.count leads.monomials) leads.count x k) where
-        pub row-tail : k < leads.count → {w : Coordinates} → TailRow b.p n (generator_at b k) l w → RuleFor w
-        unfolding line
-        row-tail e t = let u : k < b.lines = omega (arith, are.0) in
-            new_tail (line k) (line-in k u) (sym (place.found e) ∙ line_first k u) (λ k v. t.coefficients h k (omega (arith, listed-length)))
+      pub row-tail : {k : ℕ} → PlaceAt n (rows_of n leads) x k → {w : Coordinates} → TailRow b.p n (generator_at b k) l w → RuleFor w
+      unfolding line
+      row-tail {k} place t = let u : k < b.lines = omega (arith, are.0, place.within, rows-length n leads) in
+          new_tail (line k) (line-in k u) (sym place.found ∙ line_first k u) (λ k v. t.coefficients h k (omega (arith, v, rows-length n l)))
 
-        pub no_lead : leads.count ≤ k → (f : Line (ZMod b.p) (Row n)) → f ∈ G → ¬ (x ≡ f.0)
-        unfolding line
-        no_lead e f p q =
-            let (j, v, d) = place_of (one n, []) p in
-            let u : j < b.lines = omega (arith, v, stored-lines-length b h lines) in
-            place.first j (omega (arith, are.0)) (line_first j u ∙ ap (λ (f : Line (ZMod b.p) (Row n)). f.0) (sym (line-at b h j u) ∙ d) ∙ sym q)
+      pub no_lead : Place n (rows_of n leads) x None → (f : Line (ZMod b.p) (Row n)) → f ∈ G → ¬ (x ≡ f.0)
+      unfolding line
+      no_lead none f p q =
+          let (j, v, d) = place_of (one n, []) p in
+          let u : j < b.lines = omega (arith, v, stored-lines-length b h lines) in
+          none j (omega (arith, u, are.0, rows-length n leads)) (line_first j u ∙ ap (λ (f : Line (ZMod b.p) (Row n)). f.0) (sym (line-at b h j u) ∙ d) ∙ sym q)
 
-    pub passes-some : i < n → s < l.count → Reducible (monomials n) G x → ((f : Line (ZMod b.p) (Row n)) → f ∈ G → ¬ (x ≡ f.0)) → (j : ℕ) × (j < n) × Detour n l (at s) i j
+    pub passes-some : i < n → s < length l → Reducible (monomials n) G x → ((f : Line (ZMod b.p) (Row n)) → f ∈ G → ¬ (x ≡ f.0)) → (j : ℕ) × (j < n) × Detour n l (at s) i j
     unfolding monomials
     passes-some hi hs r other =
         let (j, hj, c, e, red) = take-off n G i hi (at s) (listed-irreducible s hs) r other in
@@ -158,7 +150,7 @@ module _ (b : StoredBasis) (l : Irreducibles) (irreducibles : ListsIrreducibles 
           },
         )
 
-  module _ (i s : ℕ) (hs : s < l.count) (j : ℕ) (passes : Detour n l (at s) i j) (t : ℕ) (place : Place n B l.count (quotient n (at s) (variable n j)) t) where
+  module _ (i s : ℕ) (hs : s < length l) (j : ℕ) (passes : Detour n l (at s) i j) where
     c : Row n
     c = quotient n (at s) (variable n j)
 
@@ -166,43 +158,43 @@ module _ (b : StoredBasis) (l : Irreducibles) (irreducibles : ListsIrreducibles 
     unfolding c
     taken = sym (product-quotient n (at s) (variable n j) passes.divisor) ∙ product-comm n _ _
 
-    pub divisor-listed : t < l.count
+    pub divisor-listed : ¬ Place n B (quotient n (at s) (variable n j)) None
     unfolding c monomials
-    divisor-listed = place_inside t place (λ (g, p, (u, e)). listed-irreducible s hs
+    divisor-listed = place_inside (λ (g, p, (u, e)). listed-irreducible s hs
         (g, p, (product n (variable n j) u, taken ∙ ap (product n (variable n j)) e ∙ sym (product-assoc n (variable n j) u g.0))))
 
-    pub row-product : j < n → l.count ≤ most_standard → {tables : Tables} {w : Coordinates}
-        → Multiplied b.p tables j (table_row tables i t) l.count w → RuleFor (cell_of b.p h tables) i s w
+    pub row-product : {t : ℕ} → PlaceAt n B (quotient n (at s) (variable n j)) t → j < n → length l ≤ most_standard → {tables : Tables} {w : Coordinates}
+        → Multiplied b.p tables j (table_row tables i t) (length l) w → RuleFor (cell_of b.p h tables) i s w
     unfolding c
-    row-product hj few {tables} {w} r = new_product j hj t (omega (arith, listed-length, divisor-listed))
+    row-product {t} place hj few {tables} {w} r = new_product j hj t place.within
         (taken ∙ ap (product n (variable n j)) (sym here))
         (subst (λ m. Reducible (monomials n) G (product n (variable n i) m)) (sym here) (reducible-outside _ passes.outside))
-        (λ k v. subst (λ d. coordinates_of b.p h w k ≡ times_variable (modulo b.p h) d (cell_of b.p h tables) j (cell_of b.p h tables i t) k) (sym listed-length)
-        (r.coordinates h k (omega (arith, listed-length)) ∙ multiply-row tables i t b.p h l.count few j k))
+        (λ k v. subst (λ d. coordinates_of b.p h w k ≡ times_variable (modulo b.p h) d (cell_of b.p h tables) j (cell_of b.p h tables i t) k) (sym (rows-length n l))
+        (r.coordinates h k (omega (arith, v, rows-length n l)) ∙ multiply-row tables i t b.p h (length l) few j k))
       where
         here : at t ≡ quotient n (at s) (variable n j)
-        here = place.found divisor-listed
+        here = place.found
 
--- The row that the code makes for x_i·B_s, by the place of the line that leads with it.
-module _ (b : StoredBasis) (sound : Sound b) (l : Irreducibles) (irreducibles : ListsIrreducibles b l) (full : l.count ≤ length l.monomials) (lines : b.lines ≤ length b.generators)
-    (leads : Leads) (are : LeadsOf b leads.count leads.monomials) (tables : Tables) (i s : ℕ) (hi : i < b.n) (hs : s < l.count)
-    {k : ℕ} (place : Place b.n (rows_of b.n leads.count leads.monomials) leads.count (product b.n (variable b.n i) (listed_at b.n l s)) k) where
+-- The row that the code makes for x_i·B_s, by the place of the line that leads with it, or that there is none.
+module _ (b : StoredBasis) (sound : Sound b) (l : List Monomial) (irreducibles : ListsIrreducibles b l) (lines : b.lines ≤ length b.generators)
+    (leads : List Monomial) (are : LeadsOf b leads) (tables : Tables) (i s : ℕ) (hi : i < b.n) (hs : s < length l) where
   above_one : 1 < b.p
   above_one = sound.modulus.prime.above_one
 
-  pub comes-through : leads.count ≤ k → Unlisted b.n l i s → Through b.n l i s
-  comes-through e out = record {
-    some = passes-some b l irreducibles full above_one (cell_of b.p above_one tables) i s hi hs (reducible-outside b l irreducibles full above_one _ out)
-        (no_lead b l irreducibles full above_one (cell_of b.p above_one tables) i s lines leads are place e);
-    inside = λ j passes k at. divisor-listed b l irreducibles full above_one i s hs j passes k at;
+  pub comes-through : Place b.n (rows_of b.n leads) (product b.n (variable b.n i) (listed_at b.n l s)) None → Unlisted b.n l i s → Through b.n l i s
+  comes-through none out = record {
+    some = passes-some b l irreducibles above_one (cell_of b.p above_one tables) i s hi hs (reducible-outside b l irreducibles above_one _ out)
+        (no_lead b l irreducibles above_one (cell_of b.p above_one tables) i s lines leads are none);
+    inside = λ j passes. divisor-listed b l irreducibles above_one i s hs j passes;
   }
 
-  made-rule : (h : 1 < b.p) {w : Coordinates} → MadeBy b.p b.n l tables i s w → RuleFor b l irreducibles full h (cell_of b.p h tables) i s w
-  made-rule h (by_unit k u e c) = row-unit b l irreducibles full h (cell_of b.p h tables) i s k u e _ c
-  made-rule h (by_product q) = row-product b l irreducibles full h i s hs q.by q.passes q.at q.place q.within irreducibles.few q.multiplied
+  made-rule : (h : 1 < b.p) {w : Coordinates} → MadeBy b.p b.n l tables i s w → RuleFor b l irreducibles h (cell_of b.p h tables) i s w
+  made-rule h (by_unit k u e c) = row-unit b l irreducibles h (cell_of b.p h tables) i s k u e _ c
+  made-rule h (by_product q) = row-product b l irreducibles h i s hs q.by q.passes q.place q.within irreducibles.few q.multiplied
 
   pub row_made : {w : Coordinates} → MadeRow b.p b.n l tables i s w → RowFor b l tables i s w
   row_made m = record { below = m.below; rule = λ h. made-rule h m.made }
 
-  pub row-led : k < leads.count → {w : Coordinates} → TailRow b.p b.n (generator_at b k) l w → RowFor b l tables i s w
-  row-led e t = record { below = t.below; rule = λ h. row-tail b l irreducibles full h (cell_of b.p h tables) i s lines leads are place e t }
+  pub row-led : {k : ℕ} → PlaceAt b.n (rows_of b.n leads) (product b.n (variable b.n i) (listed_at b.n l s)) k → {w : Coordinates}
+      → TailRow b.p b.n (generator_at b k) l w → RowFor b l tables i s w
+  row-led place t = record { below = t.below; rule = λ h. row-tail b l irreducibles h (cell_of b.p h tables) i s lines leads are place t }

@@ -2,7 +2,7 @@
 --   Fillable b l            the lines of b are sound, and the list l has their irreducible monomials
 --   AllFilled b h l t       the tables t have these rows, B the list l
 --   FilledRows b l cells    so do the cells, all below p
-use Rattle.std.specs.Prelude.{ℕ, ◌<◌, List}
+use Rattle.std.specs.Prelude.{ℕ, ◌<◌, List, length}
 use Rattle.residue.specs.Field.{modulo}
 use Rattle.monomial.specs.Rows.{one}
 use Rattle.monomial.specs.Ordering.{Grevlex}
@@ -12,20 +12,20 @@ use Rattle.lines.specs.Bases.{StoredBasis}
 use Rattle.staircase.specs.StoredLines.{stored_lines}
 use Rattle.staircase.specs.Sound.{Sound}
 use Rattle.staircase.specs.Listed.{listed, ListsIrreducibles}
-use Rattle.staircase.specs.declared.irreducible.Irreducibles.{Irreducibles}
+use Rattle.monomial.specs.declared.Monomial.{Monomial}
 use Rattle.multiplication.specs.Rows.{tables_of, Cells, cell_of, Tables}
 
 -- The lines of b are sound, each led by its greatest monomial, and the list l has their irreducible monomials.
-pub record Fillable (b : StoredBasis) (l : Irreducibles) : Type 0 where
+pub record Fillable (b : StoredBasis) (l : List Monomial) : Type 0 where
   pub sound : Sound b
   pub irreducibles : ListsIrreducibles b l
   pub low : (h : 1 < b.p) → Low (Grevlex b.n) (stored_lines b h)
 
 -- The tables t have the rows of the products x_i·B_s, B the list l.
-abbrev pub AllFilled : (b : StoredBasis) → 1 < b.p → Irreducibles → Tables → Type 0
-AllFilled b h l t = (i : ℕ) → i < b.n → (s : ℕ) → s < l.count → Filled (modulo b.p h) b.n (stored_lines b h) (listed b.n l) (one b.n) (cell_of b.p h t) i s
+abbrev pub AllFilled : (b : StoredBasis) → 1 < b.p → List Monomial → Tables → Type 0
+AllFilled b h l t = (i : ℕ) → i < b.n → (s : ℕ) → s < length l → Filled (modulo b.p h) b.n (stored_lines b h) (listed b.n l) (one b.n) (cell_of b.p h t) i s
 
 -- The cells have these rows, all coefficients below p.
-pub record FilledRows (b : StoredBasis) (l : Irreducibles) (cells : List ℕ) : Type 0 where
+pub record FilledRows (b : StoredBasis) (l : List Monomial) (cells : List ℕ) : Type 0 where
   pub stored : Cells b.p cells
   pub filled : (h : 1 < b.p) → AllFilled b h l (tables_of cells)

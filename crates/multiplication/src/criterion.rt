@@ -7,8 +7,8 @@ ghost use Rattle.multiplication.specs.Criterion.{Candidate, Acceptance};
 use crate::commute::commute;
 use crate::fill::fill;
 use lines::Shape;
+use monomial::Monomial;
 use residue::field::PrimeField;
-use staircase::irreducible::Irreducibles;
 
 // Whether the lines are a Groebner basis; the rows are left in the lent cells. The irreducible monomials stand in rising grevlex order.
 // As many lines as variables have coprime leading monomials, and are a Groebner basis.
@@ -18,11 +18,11 @@ pub fn is_groebner(
     coefficients: &[u16],
     exponents: &[u8],
     shape: Shape,
-    irreducibles: Irreducibles,
+    irreducibles: &[Monomial],
 ) -> bool
-    requires { NoRows cells.old × Stored shape counts.now coefficients.now exponents.now (λ b. Candidate b irreducibles) }
+    requires { NoRows cells.old × Stored shape counts.now coefficients.now exponents.now (λ b. Candidate b irreducibles.now) }
     ensures { (length cells.new ≡ most_cells)
-        × Acceptance (basis_in shape counts.now coefficients.now exponents.now) irreducibles result (tables_of cells.new) }
+        × Acceptance (basis_in shape counts.now coefficients.now exponents.now) irreducibles.now result (tables_of cells.new) }
 {
     let field = PrimeField::new(shape.p);
     fill(
@@ -33,5 +33,5 @@ pub fn is_groebner(
         shape,
         irreducibles,
     );
-    shape.lines == shape.n || commute(&*cells, shape.n, irreducibles.count, field)
+    shape.lines == shape.n || commute(&*cells, shape.n, irreducibles.len(), field)
 }

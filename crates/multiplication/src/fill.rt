@@ -1,22 +1,23 @@
 // The rows of the products typeof.x_i.B_s, filled in rising grevlex order of these products, B the irreducible monomials.
-ghost use Rattle.std.specs.Prelude.{◌≡◌, ℕ, true, ◌↔◌, ◌≤◌, ◌<◌, length, get_or};
-ghost use Rattle.residue.specs.Prime.{largest_modulus, Modulus};
+ghost use Rattle.std.specs.Prelude.{◌≡◌, ℕ, true, ◌↔◌, ◌≤◌, ◌<◌, List, length, get_or};
+ghost use Rattle.residue.specs.Prime.{largest_modulus};
 ghost use Rattle.monomial.specs.Sizes.{most_variables};
 ghost use Rattle.monomial.specs.Rows.{exponent};
 ghost use Rattle.monomial.specs.Represented.{row};
-ghost use Rattle.monomial.specs.Ranks.{above_ranks, RanksOf, RisingRanks, Bounded};
+ghost use Rattle.monomial.specs.Ranks.{above_ranks, RisingRanks, Bounded};
+ghost use Rattle.monomial.specs.declared.Monomial.{Monomial};
 ghost use Rattle.lines.specs.Sizes.{most_standard};
 ghost use Rattle.lines.specs.Bases.{basis_in, Stored};
 ghost use Rattle.staircase.specs.Sound.{SoundLine};
-ghost use Rattle.staircase.specs.Listed.{listed, Distinct};
 ghost use Rattle.coordinates.specs.Vectors.{Below};
 ghost use Rattle.multiplication.specs.Rows.{NoRows, tables_of, Cells};
 ghost use Rattle.multiplication.specs.Rules.{PassesBy, SomePasses, Unlisted, Through, ProductRow, MadeRow};
 ghost use Rattle.multiplication.specs.RankedLists.{RankedList, ProductAt, ProductRank, FirstRanks};
-ghost use Rattle.multiplication.specs.Tails.{Subtracted, TailRow};
+ghost use Rattle.multiplication.specs.Tails.{Subtracted, TailRow, DistinctRanks};
 ghost use Rattle.multiplication.specs.Filling.{Fillable, FilledRows};
 
 use crate::rows::{row_start, times_variable};
+use arrayvec::ArrayVec;
 use coordinates::Coordinates;
 use coordinates::rows::{put_row, row_at};
 use lines::Shape;
@@ -26,10 +27,9 @@ use lines::store::line_at;
 use monomial::rank::{next_place, place_after, put_variable_ranks, rank, rank_place};
 use monomial::{Exponent, MAX_VARIABLES, Monomial};
 use residue::Residue;
-use staircase::irreducible::Irreducibles;
-use staircase::leads::Leads;
-use staircase::place::listed_at;
-use staircase::ranks::{put_lead_ranks, put_ranks};
+use residue::field::PrimeField;
+use staircase::leads::leads_of;
+use staircase::ranks::ranks_of;
 
 // c is subtracted at a place, if there is one.
 fn subtract_at(mut r: Coordinates, c: Residue, at: Option<usize>, p: u16) -> Coordinates
@@ -44,51 +44,37 @@ fn subtract_at(mut r: Coordinates, c: Residue, at: Option<usize>, p: u16) -> Coo
 }
 
 // Minus the tail of a line: its terms but the first, from the last on.
-fn tail_row(
-    ranks: &[u64],
-    g: Generator,
-    irreducibles: Irreducibles,
-    n: usize,
-    p: u16,
-) -> Coordinates
-    requires { let l = irreducibles in
-        RanksOf n (listed n l) l.count ranks.now × SoundLine p n g × Distinct n l × (n ≤ most_variables) × (l.count ≤ most_standard) × (p ≤ largest_modulus) }
-    ensures { TailRow p n g irreducibles result }
+fn tail_row(ranks: &[u64], g: Generator, n: usize, p: u16) -> Coordinates
+    requires { SoundLine p n g × (n ≤ most_variables) × (length ranks.now ≤ most_standard) × (p ≤ largest_modulus) }
+    ensures { (l : List Monomial) → DistinctRanks n l ranks.now → TailRow p n g l result }
 {
     let mut r = Coordinates::zero();
     for k in (1..g.terms).rev() {
         let m = g.monomials[k];
         let c = g.coefficients[k];
-        let at = rank_place(&ranks[..irreducibles.count], rank(m, n));
+        let at = rank_place(ranks, rank(m, n));
         r = subtract_at(r, c, at, p);
     }
     r
 }
 
 // Whether an exponent is not 0, and w less the rank x is no rank of the list.
-fn is_detour(ranks: &[u64], count: usize, e: Exponent, wanted: u64, x: u64) -> bool
-    requires { (count ≤ length ranks.now) × (0 < e.0 → x ≤ wanted) × RisingRanks ranks.now count }
-    ensures { (result ≡ true) ↔ PassesBy ranks.now count e.0 wanted x }
+fn is_detour(ranks: &[u64], e: Exponent, wanted: u64, x: u64) -> bool
+    requires { (0 < e.0 → x ≤ wanted) × RisingRanks ranks.now (length ranks.now) }
+    ensures { (result ≡ true) ↔ PassesBy ranks.now e.0 wanted x }
 {
-    e.0 != 0 && place_after(&ranks[..count], 0, wanted - x).is_none()
+    e.0 != 0 && place_after(ranks, 0, wanted - x).is_none()
 }
 
 // The first x_j that divides m with w less its rank no rank of the list, of which there is one.
-fn variable_through(
-    ranks: &[u64],
-    variables: &[u64],
-    count: usize,
-    m: Monomial,
-    wanted: u64,
-    n: usize,
-) -> usize
-    requires { (count ≤ length ranks.now) × (n ≤ length variables.now) × (n ≤ most_variables) × RisingRanks ranks.now count
-        × SomePasses n (row n m) ranks.now variables.now count wanted }
-    ensures { (result < n) × PassesBy ranks.now count (exponent n (row n m) result) wanted (get_or variables.now result 0) }
+fn variable_through(ranks: &[u64], variables: &[u64], m: Monomial, wanted: u64, n: usize) -> usize
+    requires { (n ≤ length variables.now) × (n ≤ most_variables) × RisingRanks ranks.now (length ranks.now)
+        × SomePasses n (row n m) ranks.now variables.now wanted }
+    ensures { (result < n) × PassesBy ranks.now (exponent n (row n m) result) wanted (get_or variables.now result 0) }
 {
     for j in 0..n {
         let e = m.e[j];
-        if is_detour(ranks, count, e, wanted, variables[j]) {
+        if is_detour(ranks, e, wanted, variables[j]) {
             return j;
         }
     }
@@ -100,22 +86,22 @@ fn product_row(
     cells: &[u16],
     ranks: &[u64],
     variables: &[u64],
-    irreducibles: Irreducibles,
+    irreducibles: &[Monomial],
     wanted: u64,
     i: usize,
     place: usize,
     n: usize,
-    p: u16,
+    field: PrimeField,
 ) -> Coordinates
-    requires { let l = irreducibles in
-        Modulus p × Cells p cells.now × RankedList n l ranks.now variables.now × ProductAt n l i place wanted × Through n l i place }
-    ensures { ProductRow p n irreducibles (tables_of cells.now) i place result }
+    requires { let l = irreducibles.now in
+        Cells field.p cells.now × RankedList n l ranks.now variables.now × ProductAt n l i place wanted × Through n l i place }
+    ensures { ProductRow field.p n irreducibles.now (tables_of cells.now) i place result }
 {
-    let m = listed_at(irreducibles, place);
-    let j = variable_through(ranks, variables, irreducibles.count, m, wanted, n);
-    let at = rank_place(&ranks[..irreducibles.count], ranks[place] - variables[j]).unwrap();
+    let m = irreducibles[place];
+    let j = variable_through(ranks, variables, m, wanted, n);
+    let at = rank_place(ranks, ranks[place] - variables[j]).unwrap();
     let row = row_at(cells, row_start(i, at));
-    times_variable(cells, j, row, irreducibles.count, p)
+    times_variable(cells, j, row, irreducibles.len(), field)
 }
 
 // The row of typeof.x_i.B_s of rank w, which is no leading monomial: a unit row if it is listed, and otherwise a product.
@@ -123,18 +109,18 @@ fn row_for(
     cells: &[u16],
     ranks: &[u64],
     variables: &[u64],
-    irreducibles: Irreducibles,
+    irreducibles: &[Monomial],
     wanted: u64,
     i: usize,
     place: usize,
     n: usize,
-    p: u16,
+    field: PrimeField,
 ) -> Coordinates
-    requires { let l = irreducibles in Modulus p × Cells p cells.now × RankedList n l ranks.now variables.now × ProductAt n l i place wanted
+    requires { let l = irreducibles.now in Cells field.p cells.now × RankedList n l ranks.now variables.now × ProductAt n l i place wanted
         × (Unlisted n l i place → Through n l i place) }
-    ensures { MadeRow p n irreducibles (tables_of cells.now) i place result }
+    ensures { MadeRow field.p n irreducibles.now (tables_of cells.now) i place result }
 {
-    if let Some(k) = place_after(&ranks[..irreducibles.count], place + 1, wanted) {
+    if let Some(k) = place_after(ranks, place + 1, wanted) {
         return Coordinates::unit(k);
     }
     product_row(
@@ -146,7 +132,7 @@ fn row_for(
         i,
         place,
         n,
-        p,
+        field,
     )
 }
 
@@ -157,21 +143,20 @@ pub struct Cursors {
 }
 
 // The rank of typeof.x_i.B_s, where x is that of x_i, or 0 where the list has no B_s.
-fn product_rank(ranks: &[u64], count: usize, x: u64, place: usize) -> u64
-    requires { (count ≤ length ranks.now) × Bounded ranks.now count × (x < above_ranks) }
-    ensures { ProductRank ranks.now count x place result }
+fn product_rank(ranks: &[u64], x: u64, place: usize) -> u64
+    requires { Bounded ranks.now (length ranks.now) × (x < above_ranks) }
+    ensures { ProductRank ranks.now x place result }
 {
-    if place < count { x + ranks[place] } else { 0 }
+    ranks.get(place).map_or(0, |r| x + *r)
 }
 
 // The ranks of the products typeof.x_i.B_0.
-fn put_first_ranks(next: &mut [u64], ranks: &[u64], variables: &[u64], count: usize, n: usize)
-    requires { (length next.old ≡ most_variables) × (n ≤ most_variables) × (n ≤ length variables.now) × Bounded variables.now n × (count ≤ length ranks.now) × Bounded ranks.now count }
-    ensures { FirstRanks ranks.now variables.now count n next.new }
+fn put_first_ranks(next: &mut [u64], ranks: &[u64], variables: &[u64], n: usize)
+    requires { (length next.old ≡ most_variables) × (n ≤ most_variables) × (n ≤ length variables.now) × Bounded variables.now n × Bounded ranks.now (length ranks.now) }
+    ensures { FirstRanks ranks.now variables.now n next.new }
 {
     for i in 0..n {
-        let x = variables[i];
-        next[i] = product_rank(ranks, count, x, 0);
+        next[i] = product_rank(ranks, variables[i], 0);
     }
 }
 
@@ -182,31 +167,30 @@ pub fn fill(
     coefficients: &[u16],
     exponents: &[u8],
     shape: Shape,
-    irreducibles: Irreducibles,
+    irreducibles: &[Monomial],
 )
-    requires { NoRows cells.old × Stored shape counts.now coefficients.now exponents.now (λ b. Fillable b irreducibles) }
+    requires { NoRows cells.old × Stored shape counts.now coefficients.now exponents.now (λ b. Fillable b irreducibles.now) }
     ensures { let b = basis_in shape counts.now coefficients.now exponents.now in
-        FilledRows b irreducibles cells.new }
+        FilledRows b irreducibles.now cells.new }
 {
     let mut c = Cursors {
         at: [0; MAX_VARIABLES],
     };
-    let mut ranks: [u64; MAX_STANDARD] = [0; MAX_STANDARD];
-    put_ranks(&mut ranks, irreducibles, shape.n);
-    let leads = Leads::of(exponents, shape.lines);
-    let mut lead_ranks: [u64; MAX_LINES] = [0; MAX_LINES];
-    put_lead_ranks(&mut lead_ranks, leads, shape.n);
+    let field = PrimeField::new(shape.p);
+    let ranks: ArrayVec<u64, MAX_STANDARD> = ranks_of(irreducibles, shape.n);
+    let leads = leads_of(exponents, shape.lines);
+    let lead_ranks: ArrayVec<u64, MAX_LINES> = ranks_of(&leads, shape.n);
     let mut variables: [u64; MAX_VARIABLES] = [0; MAX_VARIABLES];
     put_variable_ranks(&mut variables, shape.n);
     let mut next: [u64; MAX_VARIABLES] = [0; MAX_VARIABLES];
-    put_first_ranks(&mut next, &ranks, &variables, irreducibles.count, shape.n);
+    put_first_ranks(&mut next, &ranks, &variables, shape.n);
     while let Some(i) = next_place(&next[..shape.n], 1) {
         let s = c.at[i];
         let w = next[i];
-        let row = match rank_place(&lead_ranks[..leads.count], w) {
+        let row = match rank_place(&lead_ranks, w) {
             Some(k) => {
                 let g = line_at(counts, coefficients, exponents, k);
-                tail_row(&ranks, g, irreducibles, shape.n, shape.p)
+                tail_row(&ranks, g, shape.n, shape.p)
             }
             None => row_for(
                 &*cells,
@@ -217,12 +201,12 @@ pub fn fill(
                 i,
                 s,
                 shape.n,
-                shape.p,
+                field,
             ),
         };
         put_row(&mut *cells, row_start(i, s), row);
         c.at[i] = s + 1;
         let x = variables[i];
-        next[i] = product_rank(&ranks, irreducibles.count, x, s + 1);
+        next[i] = product_rank(&ranks, x, s + 1);
     }
 }

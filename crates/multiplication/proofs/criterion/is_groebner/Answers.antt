@@ -1,20 +1,12 @@
 -- `is_groebner` meets its contract.
 use mathlib.Core.Path.{◌≡◌, sym, ◌∙◌}
-use Prim.Native.Nat.{◌≤◌}
-use native.Mathlib.Omega.{arith}
-use borrow.Author.Rules.{rules}
 use borrow.Author.Tests.{eq-eqb}
 use lib.ListN.{length}
-use Rattle.lists.proofs.Elements.{length-mapped}
-use Rattle.lines.specs.Sizes.{most_standard}
 use Rattle.staircase.proofs.StoredBasis.{held-filled}
 use Rattle.multiplication.proofs.AllRows.{no-rows-length}
 use Rattle.multiplication.proofs.GroebnerTest.{candidate-fillable, acceptance, square-acceptance}
-use Rattle.multiplication.proofs.criterion.is_groebner.Goals.{After-fill, Start}
+use Rattle.multiplication.proofs.criterion.is_groebner.Goals.{After-fill}
 use Rattle.multiplication.proofs.criterion.is_groebner.Goals as goal
-
-full : (c : Start) → c.args.irreducibles.count ≤ length c.args.irreducibles.monomials
-full c = let e : length c.args.irreducibles.monomials ≡ most_standard = search (length-mapped, rules) in omega (arith, c.requires.1.basis.irreducibles.few)
 
 pub fill-requires : goal.fill-requires
 fill-requires c =
@@ -45,4 +37,4 @@ shape_of-cells-else-shape c = kept (goal.at.shape_of-cells-else-shape c).After-f
 pub returns-else-shape : goal.returns-else-shape
 returns-else-shape c =
     let rows = c.fill.ensures in
-    (rows.stored.size, acceptance c.requires.1.basis rows _ (full (goal.at.returns-else-shape c).Start) (rw c.new-field.ensures at c.commute.ensures))
+    (rows.stored.size, acceptance c.requires.1.basis rows _ (rw c.new-field.ensures at c.commute.ensures))

@@ -4,58 +4,48 @@ use Prim.Native.Nat.{ℕ, ◌≤◌, ◌<◌}
 use lib.ListN.{length, replicate}
 use native.Mathlib.Omega.{arith}
 use borrow.Author.Rules.{rules}
-use Rattle.lists.proofs.Elements.{length-mapped}
 use Rattle.lists.proofs.Storing.{zeros-at}
 use Rattle.std.proofs.lemmas.List.{length-take-le}
 use Rattle.monomial.specs.Sizes.{most_variables}
-use Rattle.monomial.proofs.RankPlaces.{ranks-bounded, variables-bounded}
+use Rattle.monomial.proofs.RankPlaces.{variables-bounded}
 use Rattle.lines.specs.Sizes.{most_standard, most_lines}
 use Rattle.lines.specs.Stored.{line_in}
 use Rattle.lines.specs.Bases.{StoredBasis, basis_in}
 use Rattle.lines.specs.declared.line.Generator.{Generator}
-use Rattle.staircase.specs.Leads.{LeadsOf}
 use Rattle.staircase.specs.Sound.{generator_at, SoundLine}
 use Rattle.staircase.proofs.StoredBasis.{held-line, held-filled, held-leads}
 use Rattle.multiplication.specs.Rows.{tables_of}
 use Rattle.multiplication.specs.Tails.{TailRow}
 use Rattle.multiplication.proofs.NewRows.{RowFor}
 use Rattle.multiplication.proofs.NextProducts.{cursor, Nexts, nexts-first}
-use Rattle.multiplication.proofs.RowRules.{listed-once}
 use Rattle.multiplication.proofs.AllRows.{no-rows-length, room-less}
-use Rattle.multiplication.proofs.FillLoop.{Prepared, prepared, fill_start, fill-bounded, fill-inside, fill-place, fill-product, fill-line, fill-led, fill-through, fill-made, fill-turn, fill_stop}
-use Rattle.multiplication.proofs.fill.fill.Goals.{After-of-leads, After-put_first_ranks, After-put_variable_ranks, In-Some, In-Some-rank_place, Joined-rank_place, Start, in-None, in-Some-rank_place}
+use Rattle.multiplication.proofs.FillLoop.{Prepared, prepared, fill_start, fill-bounded, fill-inside, fill-place, fill-product, fill-line, fill-led, fill-distinct, all-bounded, fill-through, fill-made, fill-turn, fill_stop}
+use Rattle.multiplication.proofs.fill.fill.Goals.{After-put_first_ranks, After-put_variable_ranks, In-Some, In-Some-rank_place, Joined-rank_place, Start, in-None, in-Some-rank_place}
 use Rattle.multiplication.proofs.fill.fill.Goals as goal
 
 -- The basis that is lent.
 abbrev lent : Start → StoredBasis
 lent c = basis_in c.args.shape c.args.counts.now c.args.coefficients.now c.args.exponents.now
 
-full : (c : Start) → c.args.irreducibles.count ≤ length c.args.irreducibles.monomials
-full c = let e : length c.args.irreducibles.monomials ≡ most_standard = search (length-mapped, rules) in omega (arith, c.requires.1.basis.irreducibles.few)
-
-leads-are : (c : After-of-leads) → let l = c.of-leads.result in LeadsOf (lent (goal.at.After-of-leads c).Start) l.count l.monomials
-leads-are c =
-    let l = c.of-leads in
-    let sound = c.requires.1.basis.sound in
-    let e : length l.result.monomials ≡ most_lines = search (length-mapped, rules) in
-    held-leads _ _ _ _ sound _ _ l.ensures (omega (arith, l.ensures.0, sound.few))
-
 -- What is known when the loop begins.
-known : (c : After-put_variable_ranks) → Prepared (lent (goal.at.After-put_variable_ranks c).Start) c.args.irreducibles c.put_ranks.new.ranks c.put_variable_ranks.new.ranks c.of-leads.result c.put_lead_ranks.new.ranks
+known : (c : After-put_variable_ranks) → Prepared (lent (goal.at.After-put_variable_ranks c).Start) c.args.irreducibles.now c.ranks_of-ranks.result.items c.put_variable_ranks.new.ranks c.leads_of-leads.result.items c.ranks_of-lead_ranks.result.items
 known c =
     let given = c.requires.1.basis in
-    prepared given (full (goal.at.After-put_variable_ranks c).Start) (held-filled _ _ _ _ given.sound).lines c.put_ranks.ensures c.put_variable_ranks.ensures (leads-are (goal.at.After-put_variable_ranks c).After-of-leads) c.put_lead_ranks.ensures
+    prepared given (held-filled _ _ _ _ given.sound).lines c.ranks_of-ranks.ensures c.put_variable_ranks.ensures (held-leads _ _ _ _ given.sound _ c.leads_of-leads.ensures) c.ranks_of-lead_ranks.ensures
 
-pub put_ranks-requires : goal.put_ranks-requires
-put_ranks-requires c = let given = c.requires.1.basis in (given.sound.variables.most, given.irreducibles.few, search rules)
+pub new-field-requires : goal.new-field-requires
+new-field-requires c = c.requires.1.basis.sound.modulus
 
-pub of-leads-requires : goal.of-leads-requires
-of-leads-requires c = let stored = c.requires.1 in (stored.basis.sound.few, stored.arrays.exponents)
+pub ranks_of-ranks-requires : goal.ranks_of-ranks-requires
+ranks_of-ranks-requires c = let given = c.requires.1.basis in (given.sound.variables.most, given.irreducibles.few)
 
-pub put_lead_ranks-requires : goal.put_lead_ranks-requires
-put_lead_ranks-requires c =
+pub leads_of-leads-requires : goal.leads_of-leads-requires
+leads_of-leads-requires c = let stored = c.requires.1 in (stored.basis.sound.few, stored.arrays.exponents)
+
+pub ranks_of-lead_ranks-requires : goal.ranks_of-lead_ranks-requires
+ranks_of-lead_ranks-requires c =
     let sound = c.requires.1.basis.sound in
-    (sound.variables.most, omega (arith, c.of-leads.ensures.0, sound.few), search rules)
+    (sound.variables.most, omega (arith, c.leads_of-leads.ensures.0, sound.few))
 
 pub put_variable_ranks-requires : goal.put_variable_ranks-requires
 put_variable_ranks-requires c = (c.requires.1.basis.sound.variables.most, search rules)
@@ -64,14 +54,14 @@ pub put_first_ranks-requires : goal.put_first_ranks-requires
 put_first_ranks-requires c =
     let ranked = (known (goal.at.put_first_ranks-requires c).After-put_variable_ranks).ranked in
     let n = ranked.listing.variables in
-    (search rules, n, ranked.variables.many, variables-bounded _ n ranked.variables, ranked.ranks.many, ranks-bounded _ n ranked.ranks)
+    (search rules, n, ranked.variables.many, variables-bounded _ n ranked.variables, all-bounded ranked)
 
 -- The ranks of the first products.
 firsts : (c : After-put_first_ranks) → let a = c.args in
-    Nexts a.shape.n a.irreducibles (record { at = replicate most_variables 0 }) c.put_first_ranks.new.next
+    Nexts a.shape.n a.irreducibles.now (record { at = replicate most_variables 0 }) c.put_first_ranks.new.next
 firsts c =
     let ranked = (known (goal.at.After-put_first_ranks c).After-put_variable_ranks).ranked in
-    nexts-first _ _ ranked.ranks ranked.variables (λ i. zeros-at most_variables i 0) c.put_first_ranks.ensures
+    nexts-first _ _ ranked.size ranked.ranks ranked.variables (λ i. zeros-at most_variables i 0) c.put_first_ranks.ensures
 
 pub loop-i-init : goal.loop-i-init
 loop-i-init c = fill_start (known (goal.at.loop-i-init c).After-put_variable_ranks) c.requires.0 refl (firsts (goal.at.loop-i-init c).After-put_first_ranks)
@@ -100,9 +90,6 @@ offset_bounds-next-i c = omega (arith, bounds (goal.at.offset_bounds-next-i c).I
 pub bounds-next-i : goal.bounds-next-i
 bounds-next-i c = omega (arith, bounds (goal.at.bounds-next-i c).In-Some, c.loop-i.invariant.nexts.size)
 
-pub slice_bounds-rank_place-end : goal.slice_bounds-rank_place-end
-slice_bounds-rank_place-end c = sym (length-take-le _ _ c.put_lead_ranks.ensures.many)
-
 -- The line that leads with the product is one of the basis.
 led : (c : In-Some-rank_place) → c.in-Some-rank_place.k < c.args.shape.lines
 led c = fill-line c.loop-i.invariant c.next_place.ensures c.in-Some.is c.rank_place.ensures c.in-Some-rank_place.is
@@ -123,11 +110,9 @@ tail_row-row-requires c =
     let a = c.args in
     let k = c.loop-i.invariant.known in
     let sound = k.given.sound in (
-      k.ranked.ranks,
       subst (SoundLine a.shape.p a.shape.n) (sym (line-is (goal.at.tail_row-row-requires c).Start _ (few (goal.at.tail_row-row-requires c).In-Some-rank_place) _ c.line_at-g.ensures)) (sound.lines _ (led (goal.at.tail_row-row-requires c).In-Some-rank_place)),
-      listed-once _ _ k.given.irreducibles k.full sound.modulus.prime.above_one,
       sound.variables.most,
-      k.given.irreducibles.few,
+      omega (arith, k.ranked.size, k.given.irreducibles.few),
       sound.modulus.size,
     )
 
@@ -136,22 +121,22 @@ row_for-row-requires c =
     let inv = c.loop-i.invariant in
     let found = c.next_place.ensures in
     let is = c.in-Some.is in
-    (inv.known.given.sound.modulus, inv.filling.stored, inv.known.ranked, fill-product inv found is, fill-through inv found is c.rank_place.ensures c.in-None.is)
+    (rw c.new-field.ensures inv.filling.stored, inv.known.ranked, fill-product inv found is, fill-through inv found is c.rank_place.ensures c.in-None.is)
 
 -- The row that is stored.
-row : (c : Joined-rank_place) → RowFor (lent (goal.at.Joined-rank_place c).Start) c.args.irreducibles (tables_of c.loop-i.cells) c.in-Some.i (cursor c.loop-i.c c.in-Some.i) c.match-rank_place.row
+row : (c : Joined-rank_place) → RowFor (lent (goal.at.Joined-rank_place c).Start) c.args.irreducibles.now (tables_of c.loop-i.cells) c.in-Some.i (cursor c.loop-i.c c.in-Some.i) c.match-rank_place.row
 row c =
     let inv = c.loop-i.invariant in
     let found = c.next_place.ensures in
     let next = c.in-Some.is in
-    let is = RowFor (lent (goal.at.Joined-rank_place c).Start) c.args.irreducibles (tables_of c.loop-i.cells) c.in-Some.i (cursor c.loop-i.c c.in-Some.i) in
+    let is = RowFor (lent (goal.at.Joined-rank_place c).Start) c.args.irreducibles.now (tables_of c.loop-i.cells) c.in-Some.i (cursor c.loop-i.c c.in-Some.i) in
     elim c.match-rank_place.branch [
       | in-Some-rank_place w ↦
           let s = w.in-Some-rank_place.is in
           subst is (sym w.row-is)
           (fill-led inv found next c.rank_place.ensures s
-          (subst (λ g. TailRow c.args.shape.p c.args.shape.n g c.args.irreducibles w.tail_row-row.result) (line-is (goal.at.Joined-rank_place c).Start _ (omega (arith, fill-line inv found next c.rank_place.ensures s, inv.known.given.sound.few)) _ w.line_at-g.ensures) w.tail_row-row.ensures))
-      | in-None w ↦ subst is (sym w.row-is) (fill-made inv found next c.rank_place.ensures w.in-None.is w.row_for-row.ensures)
+          (subst (λ g. TailRow c.args.shape.p c.args.shape.n g c.args.irreducibles.now w.tail_row-row.result) (line-is (goal.at.Joined-rank_place c).Start _ (omega (arith, fill-line inv found next c.rank_place.ensures s, inv.known.given.sound.few)) _ w.line_at-g.ensures) (w.tail_row-row.ensures _ (fill-distinct inv))))
+      | in-None w ↦ subst is (sym w.row-is) (fill-made inv found next c.rank_place.ensures w.in-None.is (rw c.new-field.ensures at w.row_for-row.ensures))
     ]
 
 pub put_row-requires : goal.put_row-requires
@@ -182,7 +167,7 @@ pub product_rank-requires : goal.product_rank-requires
 product_rank-requires c =
     let ranked = c.loop-i.invariant.known.ranked in
     let n = ranked.listing.variables in
-    (ranked.ranks.many, ranks-bounded _ n ranked.ranks, variables-bounded _ n ranked.variables _ (bounds (goal.at.product_rank-requires c).In-Some).0)
+    (all-bounded ranked, variables-bounded _ n ranked.variables _ (bounds (goal.at.product_rank-requires c).In-Some).0)
 
 pub offset_bounds-next-i-in-Some : goal.offset_bounds-next-i-in-Some
 offset_bounds-next-i-in-Some c = omega (arith, bounds (goal.at.offset_bounds-next-i-in-Some c).In-Some)

@@ -1,5 +1,5 @@
 -- `product_row` meets its contract.
-use mathlib.Core.Path.{◌≡◌}
+use mathlib.Core.Path.{◌≡◌, sym}
 use Prim.Native.Nat.{◌+◌, ◌<◌}
 use lib.ListN.{get_or}
 use native.Mathlib.Omega.{arith}
@@ -7,62 +7,63 @@ use Rattle.monomial.specs.Sizes.{most_variables}
 use Rattle.monomial.specs.Quotients.{quotient, variable}
 use Rattle.monomial.specs.Ranks.{rank_of}
 use Rattle.lines.specs.Sizes.{most_standard}
-use Rattle.staircase.specs.Listed.{listed, listed_at, Place}
-use Rattle.staircase.proofs.RankedLists.{FoundPlace, rank-place, found-some}
+use Rattle.staircase.specs.Listed.{listed, listed_at, PlaceAt, Place}
+use Rattle.staircase.proofs.ArrayRows.{rows-length, rows_at}
+use Rattle.multiplication.proofs.ListPlaces.{list-place, place-some}
 use Rattle.multiplication.specs.Passes.{Detour}
 use Rattle.multiplication.proofs.RankQuotients.{quotient-short, quotient-rank, passes-by, some-passes}
 use Rattle.multiplication.proofs.RowSums.{table-row-below}
 use Rattle.multiplication.proofs.fill.product_row.Goals.{After-rank_place, After-unwrap-at, After-variable_through-j}
 use Rattle.multiplication.proofs.fill.product_row.Goals as goal
 
-passes_at : (c : After-variable_through-j) → let a = c.args in Detour a.n a.irreducibles (listed_at a.n a.irreducibles a.place) a.i c.variable_through-j.result
+passes_at : (c : After-variable_through-j) → let a = c.args in Detour a.n a.irreducibles.now (listed_at a.n a.irreducibles.now a.place) a.i c.variable_through-j.result
 passes_at c =
-    let (_, _, ranked, of, _) = c.requires in
+    let (_, ranked, of, _) = c.requires in
     let (hj, by) = c.variable_through-j.ensures in
-    (passes-by ranked of _ hj).0 (rw (c.listed_at-m.ensures c.args.n) at by)
+    (passes-by ranked of _ hj).0 (rw (sym (rows_at c.args.n c.args.irreducibles.now c.args.place)) at by)
 
 -- The rank of B_s / x_j.
 rank-at : (c : After-variable_through-j) → let a = c.args in let j = c.variable_through-j.result in
-    rank_of a.n (quotient a.n (listed_at a.n a.irreducibles a.place) (variable a.n j)) + get_or a.variables.now j 0 ≡ get_or a.ranks.now a.place 0
+    rank_of a.n (quotient a.n (listed_at a.n a.irreducibles.now a.place) (variable a.n j)) + get_or a.variables.now j 0 ≡ get_or a.ranks.now a.place 0
 rank-at c =
-    let (_, _, ranked, of, _) = c.requires in
+    let (_, ranked, of, _) = c.requires in
     let q = quotient-rank ranked.listing c.args.place of.inside _ (passes_at c).divisor in
     omega (arith, q, ranked.ranks.rank c.args.place of.inside, ranked.variables.rank _ c.variable_through-j.ensures.0)
 
-found : (c : After-rank_place) → let a = c.args in let l = a.irreducibles in
-    FoundPlace a.n (listed a.n l) l.count (quotient a.n (listed_at a.n l a.place) (variable a.n c.variable_through-j.result)) c.rank_place.result
+found : (c : After-rank_place) → let a = c.args in let l = a.irreducibles.now in
+    Place a.n (listed a.n l) (quotient a.n (listed_at a.n l a.place) (variable a.n c.variable_through-j.result)) c.rank_place.result
 found c =
-    let (_, _, ranked, of, _) = c.requires in
-    rank-place _ ranked.ranks (omega (arith, rank-at (goal.at.After-rank_place c).After-variable_through-j), quotient-short ranked.listing c.args.place of.inside c.variable_through-j.result) c.rank_place.ensures
+    let (_, ranked, of, _) = c.requires in
+    list-place _ _ ranked.size ranked.ranks (omega (arith, rank-at (goal.at.After-rank_place c).After-variable_through-j), quotient-short ranked.listing c.args.place of.inside c.variable_through-j.result) _ c.rank_place.ensures
 
 pub unwrap-at-requires : goal.unwrap-at-requires
-unwrap-at-requires c = let (_, _, _, _, through) = c.requires in
-    found-some (found c) (λ place. omega (arith, through.inside _ (passes_at (goal.at.unwrap-at-requires c).After-variable_through-j) _ place))
+unwrap-at-requires c = let (_, _, _, through) = c.requires in
+    place-some _ (found c) (through.inside _ (passes_at (goal.at.unwrap-at-requires c).After-variable_through-j))
 
-place_at : (c : After-unwrap-at) → let a = c.args in let l = a.irreducibles in
-    (c.unwrap-at.result < l.count) × Place a.n (listed a.n l) l.count (quotient a.n (listed_at a.n l a.place) (variable a.n c.variable_through-j.result)) c.unwrap-at.result
-place_at c = (found (goal.at.After-unwrap-at c).After-rank_place).some _ c.unwrap-at.ensures
+place_at : (c : After-unwrap-at) → let a = c.args in let l = a.irreducibles.now in
+    PlaceAt a.n (listed a.n l) (quotient a.n (listed_at a.n l a.place) (variable a.n c.variable_through-j.result)) c.unwrap-at.result
+place_at c = rw c.unwrap-at.ensures at found (goal.at.After-unwrap-at c).After-rank_place
 
 -- The row of x_i·B_s / x_j has its place among the rows.
 inside : (c : After-unwrap-at) → let a = c.args in (a.i < most_variables) × (c.unwrap-at.result < most_standard)
 inside c =
-    let (_, _, ranked, of, _) = c.requires in
-    (omega (arith, of.within, ranked.listing.variables), omega (arith, place_at c, ranked.listing.few))
+    let (_, ranked, of, _) = c.requires in
+    (omega (arith, of.within, ranked.listing.variables), omega (arith, (place_at c).within, rows-length c.args.n c.args.irreducibles.now, ranked.listing.few))
 
 pub variable_through-j-requires : goal.variable_through-j-requires
 variable_through-j-requires c =
-    let (_, _, ranked, of, through) = c.requires in
-    (ranked.ranks.many, ranked.variables.many, ranked.listing.variables, ranked.rising, rw (c.listed_at-m.ensures c.args.n) (some-passes ranked of through))
+    let (_, ranked, of, through) = c.requires in
+    (ranked.variables.many, ranked.listing.variables, ranked.rising, rw (rows_at c.args.n c.args.irreducibles.now c.args.place) at some-passes ranked of through)
 
 pub bounds-ranks-place : goal.bounds-ranks-place
-bounds-ranks-place c = let (_, _, ranked, of, _) = c.requires in omega (arith, ranked.ranks.many, of.inside)
+bounds-ranks-place c = let (_, ranked, of, _) = c.requires in omega (arith, ranked.ranks.many, of.inside)
 
 pub offset_bounds-variables-j : goal.offset_bounds-variables-j
-offset_bounds-variables-j c = let (_, _, ranked, _, _) = c.requires in omega (arith, ranked.listing.variables, c.variable_through-j.ensures.0)
+offset_bounds-variables-j c = let (_, ranked, _, _) = c.requires in omega (arith, ranked.listing.variables, c.variable_through-j.ensures.0)
 
 pub bounds-variables-j : goal.bounds-variables-j
 bounds-variables-j c =
-    let (_, _, ranked, _, _) = c.requires in
+    let (_, ranked, _, _) = c.requires in
     omega (arith, ranked.variables.many, c.variable_through-j.ensures.0)
 
 pub overflow_sub-ranks : goal.overflow_sub-ranks
@@ -70,14 +71,13 @@ overflow_sub-ranks c = omega (arith, rank-at (goal.at.overflow_sub-ranks c).Afte
 
 pub row_at-row-requires : goal.row_at-row-requires
 row_at-row-requires c =
-    let (_, cells, _, _, _) = c.requires in
+    let (cells, _, _, _) = c.requires in
     omega (arith, c.row_start.ensures, cells.size, inside (goal.at.row_at-row-requires c).After-unwrap-at)
 
 pub times_variable-requires : goal.times_variable-requires
 times_variable-requires c =
-    let (modulus, cells, ranked, _, _) = c.requires in
+    let (cells, ranked, _, _) = c.requires in
     let (hi, hs) = inside (goal.at.times_variable-requires c).After-unwrap-at in (
-      modulus,
       cells,
       omega (arith, c.variable_through-j.ensures.0, ranked.listing.variables),
       ranked.listing.few,
@@ -91,7 +91,7 @@ returns c =
       at = c.unwrap-at.result;
       within = c.variable_through-j.ensures.0;
       passes = passes_at (goal.at.returns c).After-variable_through-j;
-      place = (place_at (goal.at.returns c).After-unwrap-at).1;
+      place = place_at (goal.at.returns c).After-unwrap-at;
       multiplied = rw (c.row_at-row.ensures, c.row_start.ensures) at c.times_variable.ensures;
     }
 

@@ -4,65 +4,64 @@ use mathlib.Core.Logic.{by_cases}
 use Prim.Native.Nat.{◌<◌}
 use native.Mathlib.Decide.{dec_lt}
 use native.Mathlib.Omega.{arith}
-use lib.ListN.{get_or}
-use Rattle.std.proofs.lemmas.List.{get_or-take, length-take-le}
+use lib.ListN.{length, get_or}
 use Rattle.monomial.specs.Rows.{product}
 use Rattle.monomial.specs.Quotients.{variable}
-use Rattle.staircase.specs.Listed.{listed, listed_at}
-use Rattle.monomial.proofs.RankPlaces.{rising-front}
-use Rattle.staircase.proofs.RankedLists.{FoundPlace, rank-place}
+use Rattle.staircase.specs.Listed.{listed, listed_at, PlaceAt, Place}
+use Rattle.staircase.proofs.ArrayRows.{rows-length}
 use Rattle.coordinates.proofs.UnitRows.{indicator-below}
 use Rattle.multiplication.specs.Rules.MadeBy.{by_unit, by_product}
+use Rattle.multiplication.proofs.ListPlaces.{list-place}
 use Rattle.multiplication.proofs.RankQuotients.{product-short, product-greater}
-use Rattle.multiplication.proofs.fill.row_for.Goals.{After-place_after}
+use Rattle.multiplication.proofs.fill.row_for.Goals.{After-place_after, In-Some}
 use Rattle.multiplication.proofs.fill.row_for.Goals as goal
 
 place : (c : After-place_after) → let a = c.args in
-    FoundPlace a.n (listed a.n a.irreducibles) a.irreducibles.count (product a.n (variable a.n a.i) (listed_at a.n a.irreducibles a.place)) c.place_after.result
+    Place a.n (listed a.n a.irreducibles.now) (product a.n (variable a.n a.i) (listed_at a.n a.irreducibles.now a.place)) c.place_after.result
 place c =
-    let (_, _, ranked, of, _) = c.requires in
-    rank-place _ ranked.ranks (of.rank, product-short ranked.listing c.args.place of.inside c.args.i of.within) c.place_after.ensures
+    let (_, ranked, of, _) = c.requires in
+    list-place _ _ ranked.size ranked.ranks (of.rank, product-short ranked.listing c.args.place of.inside c.args.i of.within) _ c.place_after.ensures
+
+placed : (c : In-Some) → let a = c.args in
+    PlaceAt a.n (listed a.n a.irreducibles.now) (product a.n (variable a.n a.i) (listed_at a.n a.irreducibles.now a.place)) c.in-Some.k
+placed c = rw c.in-Some.is at place (goal.at.In-Some c).After-place_after
 
 pub overflow_add-place : goal.overflow_add-place
-overflow_add-place c = let (_, _, ranked, of, _) = c.requires in omega (arith, of.inside, ranked.listing.few)
+overflow_add-place c = let (_, ranked, of, _) = c.requires in omega (arith, of.inside, ranked.listing.few)
 
 pub place_after-requires : goal.place_after-requires
 place_after-requires c =
-    let (_, _, ranked, of, _) = c.requires in
+    let (_, ranked, of, _) = c.requires in
     let at = c.args.place in
     let greater = product-greater ranked.listing at of.inside c.args.i of.within in
-    let count = c.args.irreducibles.count in
     let ranks = c.args.ranks.now in
     let above : get_or ranks at 0 < c.args.wanted = omega (arith, greater, of.rank, ranked.ranks.rank at of.inside) in
-    let size = length-take-le count ranks ranked.ranks.many in (
-      rising-front ranks ranked.ranks.many ranked.rising,
-      omega (arith, of.inside, size),
-      λ k h.
-          let v : k < count = omega (arith, h, of.inside) in
-          let low : get_or ranks k 0 < c.args.wanted = by_cases (dec_lt k at)
-          (λ u. omega (arith, ranked.rising k at u of.inside, above))
-          (λ u. subst (λ j. get_or ranks j 0 < c.args.wanted) (omega (arith, h, u)) above) in
-          omega (arith, low, get_or-take count ranks k 0 v),
+    let inside : at < length ranks = omega (arith, of.inside, ranked.size) in (
+      ranked.rising,
+      omega (arith, inside),
+      λ k h. by_cases (dec_lt k at)
+          (λ u. omega (arith, ranked.rising k at u inside, above))
+          (λ u. subst (λ j. get_or ranks j 0 < c.args.wanted) (omega (arith, h, u)) above),
     )
 
 pub unit-requires : goal.unit-requires
 unit-requires c =
-    let (_, _, ranked, _, _) = c.requires in
-    omega (arith, (place (goal.at.unit-requires c).After-place_after).some _ c.in-Some.is, ranked.listing.few)
+    let (_, ranked, _, _) = c.requires in
+    omega (arith, (placed (goal.at.unit-requires c).In-Some).within, rows-length c.args.n c.args.irreducibles.now, ranked.listing.few)
 
 pub returns-in-Some : goal.returns-in-Some
 returns-in-Some c =
-    let (modulus, _, _, _, _) = c.requires in
-    let (u, p) = (place (goal.at.returns-in-Some c).After-place_after).some _ c.in-Some.is in
+    let at = placed (goal.at.returns-in-Some c).In-Some in
     record {
-      below = record { below = λ k. rw (c.unit.ensures k) (indicator-below _ _ _ modulus.prime.above_one) };
-      made = by_unit c.in-Some.k u (p.found u) c.unit.ensures;
+      below = record { below = λ k. rw (c.unit.ensures k) (indicator-below _ _ _ c.args.field.prime.prime.above_one) };
+      made = by_unit c.in-Some.k (omega (arith, at.within, rows-length c.args.n c.args.irreducibles.now)) at.found c.unit.ensures;
     }
 
 pub product_row-requires : goal.product_row-requires
 product_row-requires c =
-    let (modulus, cells, ranked, of, through) = c.requires in
-    (modulus, cells, ranked, of, through ((place (goal.at.product_row-requires c).After-place_after).none c.in_default.is).first)
+    let (cells, ranked, of, through) = c.requires in
+    let out = rw c.in_default.is at place (goal.at.product_row-requires c).After-place_after in
+    (cells, ranked, of, through (λ k u. out k (omega (arith, u, rows-length c.args.n c.args.irreducibles.now))))
 
 pub returns : goal.returns
 returns c = record { below = c.product_row.ensures.multiplied.below; made = by_product c.product_row.ensures }

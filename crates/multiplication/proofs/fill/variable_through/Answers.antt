@@ -16,8 +16,8 @@ is c = sym (exponent-row _ _ _ c.loop-j-test.true)
 
 pub is_detour-requires : goal.is_detour-requires
 is_detour-requires c =
-    let (many, _, _, rising, passes) = c.requires in
-    (many, λ p. passes.least _ c.loop-j-test.true (rw (is (goal.at.is_detour-requires c).In-loop-j) at p), rising)
+    let (_, _, rising, passes) = c.requires in
+    (λ p. passes.least _ c.loop-j-test.true (rw (is (goal.at.is_detour-requires c).In-loop-j) at p), rising)
 
 pub returns-then-is_detour : goal.returns-then-is_detour
 returns-then-is_detour c =
