@@ -54,7 +54,8 @@ pub fillable-listing : {b : StoredBasis} {l : List Monomial} → Fillable b l �
 fillable-listing given = record { variables = given.sound.variables.most; few = given.irreducibles.few; exponents = given.irreducibles.exponents }
 
 -- The list has the ranks rs, the variables xs, and the leading monomials gs.
-pub record Prepared (b : StoredBasis) (l : List Monomial) (rs xs : List ℕ) (leads : List Monomial) (gs : List ℕ) : Type 0 where
+pub record Prepared (b : StoredBasis) (l : List Monomial) (rs xs gs : List ℕ) : Type 0 where
+  pub leads : List Monomial
   pub given : Fillable b l
   pub lines : b.lines ≤ length b.generators
   pub ranked : RankedList b.n l rs xs
@@ -62,13 +63,14 @@ pub record Prepared (b : StoredBasis) (l : List Monomial) (rs xs : List ℕ) (le
   pub lead_size : length gs ≡ length leads
   pub lead_ranks : RanksOf b.n (rows_of b.n leads) (length leads) gs
 
-pub prepared : {b : StoredBasis} {l : List Monomial} {rs xs : List ℕ} {leads : List Monomial} {gs : List ℕ} → Fillable b l → b.lines ≤ length b.generators
+pub prepared : {b : StoredBasis} {l : List Monomial} {rs xs : List ℕ} (leads : List Monomial) {gs : List ℕ} → Fillable b l → b.lines ≤ length b.generators
     → (length rs ≡ length l) × RanksOf b.n (listed b.n l) (length l) rs → VariableRanks b.n xs → LeadsOf b leads
-    → (length gs ≡ length leads) × RanksOf b.n (rows_of b.n leads) (length leads) gs → Prepared b l rs xs leads gs
-prepared {b} {l} given lines (size, ranks) variables are (lead_size, lead_ranks) =
+    → (length gs ≡ length leads) × RanksOf b.n (rows_of b.n leads) (length leads) gs → Prepared b l rs xs gs
+prepared {b} {l} leads given lines (size, ranks) variables are (lead_size, lead_ranks) =
     let h = given.sound.modulus.prime.above_one in
     let rising = subst (RisingRanks _) (sym size) (ranks-rising _ ranks (given.irreducibles.lists h).rising (rows-length b.n l)) in
     record {
+      leads = leads;
       given = given;
       lines = lines;
       ranked = record { listing = fillable-listing given; size = size; ranks = ranks; rising = rising; variables = variables };
@@ -81,20 +83,20 @@ pub all-bounded : {n : ℕ} {l : List Monomial} {rs xs : List ℕ} → RankedLis
 all-bounded {n} ranked k u = ranks-bounded n ranked.listing.variables ranked.ranks k (omega (arith, u, ranked.size))
 
 -- The rows below the cursors are filled, and the ranks of the next products are held.
-pub record FillLoop (b : StoredBasis) (l : List Monomial) (rs xs : List ℕ) (leads : List Monomial) (gs cells : List ℕ) (c : Cursors) (next : List ℕ) : Type 0 where
-  pub known : Prepared b l rs xs leads gs
+pub record FillLoop (b : StoredBasis) (l : List Monomial) (rs xs gs cells : List ℕ) (c : Cursors) (next : List ℕ) : Type 0 where
+  pub known : Prepared b l rs xs gs
   pub filling : Filling b l (tables_of cells) c
   pub nexts : Nexts b.n l c next
 
-module _ {b : StoredBasis} {l : List Monomial} {rs xs : List ℕ} {leads : List Monomial} {gs cells : List ℕ} {c : Cursors} {next : List ℕ} where
-  pub fill_start : Prepared b l rs xs leads gs → NoRows cells → c.at ≡ replicate most_variables 0 → Nexts b.n l c next → FillLoop b l rs xs leads gs cells c next
+module _ {b : StoredBasis} {l : List Monomial} {rs xs gs cells : List ℕ} {c : Cursors} {next : List ℕ} where
+  pub fill_start : Prepared b l rs xs gs → NoRows cells → c.at ≡ replicate most_variables 0 → Nexts b.n l c next → FillLoop b l rs xs gs cells c next
   fill_start known none z nexts = record {
     known = known;
     filling = filling-none (omega (arith, known.given.sound.modulus.prime.above_one)) none z;
     nexts = nexts;
   }
 
-  module _ (loop : FillLoop b l rs xs leads gs cells c next) where
+  module _ (loop : FillLoop b l rs xs gs cells c next) where
     open loop use {known, filling, nexts}
 
     pub fill-bounded : Bounded (take b.n next) (length (take b.n next))
@@ -133,30 +135,30 @@ module _ {b : StoredBasis} {l : List Monomial} {rs xs : List ℕ} {leads : List 
 
         -- By the first place of the product's rank among those of the leading monomials.
         module _ {r : Option ℕ} (ranked : FirstRank gs (length gs) (get_or next i 0) r) where
-          lead : Place b.n (rows_of b.n leads) (product b.n (variable b.n i) (listed_at b.n l (cursor c i))) r
-          lead = list-place _ leads known.lead_size known.lead_ranks (nexts.held i hi fill-inside, product-short known.ranked.listing _ fill-inside _ hi) _ ranked
+          lead : Place b.n (rows_of b.n known.leads) (product b.n (variable b.n i) (listed_at b.n l (cursor c i))) r
+          lead = list-place _ known.leads known.lead_size known.lead_ranks (nexts.held i hi fill-inside, product-short known.ranked.listing _ fill-inside _ hi) _ ranked
 
           module _ {k : ℕ} (s : r ≡ Some k) where
-            led : PlaceAt b.n (rows_of b.n leads) (product b.n (variable b.n i) (listed_at b.n l (cursor c i))) k
+            led : PlaceAt b.n (rows_of b.n known.leads) (product b.n (variable b.n i) (listed_at b.n l (cursor c i))) k
             led = rw s at lead
 
             pub fill-line : k < b.lines
-            fill-line = omega (arith, led.within, rows-length b.n leads, known.are.0)
+            fill-line = omega (arith, led.within, rows-length b.n known.leads, known.are.0)
 
             pub fill-led : {w : Coordinates} → TailRow b.p b.n (generator_at b k) l w → RowFor b l (tables_of cells) i (cursor c i) w
-            fill-led = row-led b known.given.sound l known.given.irreducibles known.lines leads known.are (tables_of cells) i (cursor c i) hi fill-inside led
+            fill-led = row-led b known.given.sound l known.given.irreducibles known.lines known.leads known.are (tables_of cells) i (cursor c i) hi fill-inside led
 
           module _ (s : r ≡ None) where
             pub fill-through : Unlisted b.n l i (cursor c i) → Through b.n l i (cursor c i)
-            fill-through = comes-through b known.given.sound l known.given.irreducibles known.lines leads known.are (tables_of cells) i (cursor c i) hi fill-inside (rw s at lead)
+            fill-through = comes-through b known.given.sound l known.given.irreducibles known.lines known.leads known.are (tables_of cells) i (cursor c i) hi fill-inside (rw s at lead)
 
             pub fill-made : {w : Coordinates} → MadeRow b.p b.n l (tables_of cells) i (cursor c i) w → RowFor b l (tables_of cells) i (cursor c i) w
-            fill-made = row_made b known.given.sound l known.given.irreducibles known.lines leads known.are (tables_of cells) i (cursor c i) hi fill-inside
+            fill-made = row_made b known.given.sound l known.given.irreducibles known.lines known.leads known.are (tables_of cells) i (cursor c i) hi fill-inside
 
         module _ {r : ℕ} (rank : ProductRank rs (get_or xs i 0) (cursor c i + 1) r) where
           fill-nexts : Nexts b.n l (record { at = set c.at i (cursor c i + 1) }) (set next i r)
           fill-nexts = nexts-more _ _ known.ranked.size known.ranked.ranks known.ranked.variables nexts i hi fill-place.1 filling.cursors r rank
 
           pub fill-turn : {w : Coordinates} {cells' : List ℕ} → RowFor b l (tables_of cells) i (cursor c i) w → RowPut cells (row_start i (cursor c i)) w cells'
-              → FillLoop b l rs xs leads gs cells' (record { at = set c.at i (cursor c i + 1) }) (set next i r)
+              → FillLoop b l rs xs gs cells' (record { at = set c.at i (cursor c i + 1) }) (set next i r)
           fill-turn new put = record { known = known; filling = filling-more filling known.given at_i new put; nexts = fill-nexts }

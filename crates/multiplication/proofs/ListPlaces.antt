@@ -18,6 +18,6 @@ pub list-place : (n : ℕ) (l : List Monomial) {ranks : List ℕ} {m : Row n} {w
 list-place n l {ranks} {w = w} size are is r first =
     rank-place n (subst (λ k. RanksOf n (listed n l) k ranks) (sym (rows-length n l)) are) is r (subst (λ k. FirstRank ranks k w r) (size ∙ sym (rows-length n l)) first)
 
-pub place-some : {n : ℕ} {B : List (Row n)} {m : Row n} (r : Option ℕ) → Place n B m r → ¬ Place n B m None → IsSome r
-place-some None none h = absurd (h none)
-place-some (Some k) _ _ = refl
+pub place-some : (n : ℕ) (B : List (Row n)) {m : Row n} (r : Option ℕ) → Place n B m r → ¬ Place n B m None → IsSome r
+place-some n B None none h = absurd (h none)
+place-some n B (Some k) _ _ = refl

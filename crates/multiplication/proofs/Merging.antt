@@ -1,12 +1,11 @@
 -- The merge of the next products.
 --   best-smaller   what is smaller than the smallest next product has its row
-use mathlib.Core.Path.{◌≡◌, sym, subst}
+use mathlib.Core.Path.{sym, subst}
 use mathlib.Core.List.{List}
 use mathlib.Core.Logic.{by_cases}
 use Prim.Native.Nat.{ℕ, ◌<◌}
 use native.Mathlib.Decide.{ℕ_discrete, dec_lt}
 use native.Mathlib.Omega.{arith}
-use lib.ListN.{length}
 use Rattle.residue.specs.Field.{ZMod, modulo}
 use Rattle.monomial.specs.Rows.{Row, one, product}
 use Rattle.monomial.specs.Quotients.{variable}

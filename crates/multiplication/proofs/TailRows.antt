@@ -5,6 +5,7 @@
 --   gathered_none        at first none
 --   gathered-small       the coefficient of the next term is below p
 --   gathered-more        one term more
+--   gathered-all         after the last
 use mathlib.Core.Path.{◌≡◌, refl, sym, ◌∙◌, ap, subst}
 use mathlib.Core.List.{List, ◌∷◌}
 use mathlib.Core.Logic.{by_cases}
@@ -35,7 +36,7 @@ use Rattle.monomial.specs.declared.Monomial.{Monomial}
 use Rattle.staircase.proofs.ArrayRows.{no_monomial, rows-length}
 use Rattle.coordinates.specs.Vectors.{coordinate, Below, coordinates_of}
 use Rattle.coordinates.specs.declared.Coordinates.{Coordinates}
-use Rattle.multiplication.specs.Tails.{Subtracted, DistinctRanks}
+use Rattle.multiplication.specs.Tails.{Subtracted, TailRow, DistinctRanks}
 use Rattle.multiplication.proofs.TailTerms.{tail_of, term_at, tail-length, tail_from}
 
 -- a - c, as residues.
@@ -157,3 +158,9 @@ module _ {p n : ℕ} {g : Generator} {ranks : List ℕ} {r : Coordinates} {k : �
               go (Some i) is =
                   let there : PlaceAt n (listed n l) (row n (get_or g.monomials (k - 1) no_monomial)) i = rw is at places l d in
                   q (is ∙ ap Some (sym (d.once j i m (omega (arith, there.within, rows-length n l)) (e ∙ sym there.found))))
+
+pub gathered-all : {p n : ℕ} {g : Generator} {ranks : List ℕ} {r : Coordinates} {k : ℕ} → Gathered p n g ranks r k → k ≤ 1
+    → (l : List Monomial) → DistinctRanks n l ranks → TailRow p n g l r
+gathered-all {k = k} so_far h l d =
+    let e : k - 1 ≡ 0 = omega arith in
+    record { below = so_far.below; coefficients = λ q j m. rw e at (so_far.coefficients l d q j m) }

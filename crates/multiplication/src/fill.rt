@@ -17,7 +17,6 @@ ghost use Rattle.multiplication.specs.Tails.{Subtracted, TailRow, DistinctRanks}
 ghost use Rattle.multiplication.specs.Filling.{Fillable, FilledRows};
 
 use crate::rows::{row_start, times_variable};
-use arrayvec::ArrayVec;
 use coordinates::Coordinates;
 use coordinates::rows::{put_row, row_at};
 use lines::Shape;
@@ -177,9 +176,9 @@ pub fn fill(
         at: [0; MAX_VARIABLES],
     };
     let field = PrimeField::new(shape.p);
-    let ranks: ArrayVec<u64, MAX_STANDARD> = ranks_of(irreducibles, shape.n);
+    let ranks = ranks_of::<MAX_STANDARD>(irreducibles, shape.n);
     let leads = leads_of(exponents, shape.lines);
-    let lead_ranks: ArrayVec<u64, MAX_LINES> = ranks_of(&leads, shape.n);
+    let lead_ranks = ranks_of::<MAX_LINES>(&leads, shape.n);
     let mut variables: [u64; MAX_VARIABLES] = [0; MAX_VARIABLES];
     put_variable_ranks(&mut variables, shape.n);
     let mut next: [u64; MAX_VARIABLES] = [0; MAX_VARIABLES];

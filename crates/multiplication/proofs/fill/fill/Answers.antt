@@ -1,12 +1,13 @@
 -- `fill` meets its contract. The loop's invariant: the rows below the cursors are filled, and the ranks of the next products are held.
 use mathlib.Core.Path.{◌≡◌, refl, sym, ◌∙◌, subst}
-use Prim.Native.Nat.{ℕ, ◌≤◌, ◌<◌}
-use lib.ListN.{length, replicate}
+use Prim.Native.Nat.{ℕ, ◌<◌}
+use lib.ListN.{length, get_or, replicate}
 use native.Mathlib.Omega.{arith}
 use borrow.Author.Rules.{rules}
 use Rattle.lists.proofs.Storing.{zeros-at}
 use Rattle.std.proofs.lemmas.List.{length-take-le}
 use Rattle.monomial.specs.Sizes.{most_variables}
+use Rattle.monomial.specs.Ranks.{FirstRank}
 use Rattle.monomial.proofs.RankPlaces.{variables-bounded}
 use Rattle.lines.specs.Sizes.{most_standard, most_lines}
 use Rattle.lines.specs.Stored.{line_in}
@@ -20,7 +21,7 @@ use Rattle.multiplication.proofs.NewRows.{RowFor}
 use Rattle.multiplication.proofs.NextProducts.{cursor, Nexts, nexts-first}
 use Rattle.multiplication.proofs.AllRows.{no-rows-length, room-less}
 use Rattle.multiplication.proofs.FillLoop.{Prepared, prepared, fill_start, fill-bounded, fill-inside, fill-place, fill-product, fill-line, fill-led, fill-distinct, all-bounded, fill-through, fill-made, fill-turn, fill_stop}
-use Rattle.multiplication.proofs.fill.fill.Goals.{After-put_first_ranks, After-put_variable_ranks, In-Some, In-Some-rank_place, Joined-rank_place, Start, in-None, in-Some-rank_place}
+use Rattle.multiplication.proofs.fill.fill.Goals.{After-put_first_ranks, After-rank_place, After-put_variable_ranks, In-Some, In-Some-rank_place, Joined-rank_place, Start, in-None, in-Some-rank_place}
 use Rattle.multiplication.proofs.fill.fill.Goals as goal
 
 -- The basis that is lent.
@@ -28,24 +29,16 @@ abbrev lent : Start → StoredBasis
 lent c = basis_in c.args.shape c.args.counts.now c.args.coefficients.now c.args.exponents.now
 
 -- What is known when the loop begins.
-known : (c : After-put_variable_ranks) → Prepared (lent (goal.at.After-put_variable_ranks c).Start) c.args.irreducibles.now c.ranks_of-ranks.result.items c.put_variable_ranks.new.ranks c.leads_of-leads.result.items c.ranks_of-lead_ranks.result.items
+known : (c : After-put_variable_ranks) → Prepared (lent (goal.at.After-put_variable_ranks c).Start) c.args.irreducibles.now c.ranks_of-ranks.result.items c.put_variable_ranks.new.ranks c.ranks_of-lead_ranks.result.items
 known c =
     let given = c.requires.1.basis in
-    prepared given (held-filled _ _ _ _ given.sound).lines c.ranks_of-ranks.ensures c.put_variable_ranks.ensures (held-leads _ _ _ _ given.sound _ c.leads_of-leads.ensures) c.ranks_of-lead_ranks.ensures
+    prepared _ given (held-filled _ _ _ _ given.sound).lines c.ranks_of-ranks.ensures c.put_variable_ranks.ensures (held-leads _ _ _ _ given.sound _ c.leads_of-leads.ensures) (rw c.deref.ensures.0 at c.ranks_of-lead_ranks.ensures)
 
 pub new-field-requires : goal.new-field-requires
 new-field-requires c = c.requires.1.basis.sound.modulus
 
-pub ranks_of-ranks-requires : goal.ranks_of-ranks-requires
-ranks_of-ranks-requires c = let given = c.requires.1.basis in (given.sound.variables.most, given.irreducibles.few)
-
 pub leads_of-leads-requires : goal.leads_of-leads-requires
 leads_of-leads-requires c = let stored = c.requires.1 in (stored.basis.sound.few, stored.arrays.exponents)
-
-pub ranks_of-lead_ranks-requires : goal.ranks_of-lead_ranks-requires
-ranks_of-lead_ranks-requires c =
-    let sound = c.requires.1.basis.sound in
-    (sound.variables.most, omega (arith, c.leads_of-leads.ensures.0, sound.few))
 
 pub put_variable_ranks-requires : goal.put_variable_ranks-requires
 put_variable_ranks-requires c = (c.requires.1.basis.sound.variables.most, search rules)
@@ -54,14 +47,14 @@ pub put_first_ranks-requires : goal.put_first_ranks-requires
 put_first_ranks-requires c =
     let ranked = (known (goal.at.put_first_ranks-requires c).After-put_variable_ranks).ranked in
     let n = ranked.listing.variables in
-    (search rules, n, ranked.variables.many, variables-bounded _ n ranked.variables, all-bounded ranked)
+    (search rules, n, ranked.variables.many, variables-bounded _ n ranked.variables, rw c.deref-2.ensures.0 (all-bounded ranked))
 
 -- The ranks of the first products.
 firsts : (c : After-put_first_ranks) → let a = c.args in
     Nexts a.shape.n a.irreducibles.now (record { at = replicate most_variables 0 }) c.put_first_ranks.new.next
 firsts c =
     let ranked = (known (goal.at.After-put_first_ranks c).After-put_variable_ranks).ranked in
-    nexts-first _ _ ranked.size ranked.ranks ranked.variables (λ i. zeros-at most_variables i 0) c.put_first_ranks.ensures
+    nexts-first _ _ ranked.size ranked.ranks ranked.variables (λ i. zeros-at most_variables i 0) (rw c.deref-2.ensures.0 at c.put_first_ranks.ensures)
 
 pub loop-i-init : goal.loop-i-init
 loop-i-init c = fill_start (known (goal.at.loop-i-init c).After-put_variable_ranks) c.requires.0 refl (firsts (goal.at.loop-i-init c).After-put_first_ranks)
@@ -90,9 +83,13 @@ offset_bounds-next-i c = omega (arith, bounds (goal.at.offset_bounds-next-i c).I
 pub bounds-next-i : goal.bounds-next-i
 bounds-next-i c = omega (arith, bounds (goal.at.bounds-next-i c).In-Some, c.loop-i.invariant.nexts.size)
 
+-- The place of the product's rank among those of the leading monomials.
+found : (c : After-rank_place) → let gs = c.ranks_of-lead_ranks.result.items in FirstRank gs (length gs) (get_or c.loop-i.next c.in-Some.i 0) c.rank_place.result
+found c = rw c.deref-in-Some.ensures.0 at c.rank_place.ensures
+
 -- The line that leads with the product is one of the basis.
 led : (c : In-Some-rank_place) → c.in-Some-rank_place.k < c.args.shape.lines
-led c = fill-line c.loop-i.invariant c.next_place.ensures c.in-Some.is c.rank_place.ensures c.in-Some-rank_place.is
+led c = fill-line c.loop-i.invariant c.next_place.ensures c.in-Some.is (found (goal.at.In-Some-rank_place c).After-rank_place) c.in-Some-rank_place.is
 
 few : (c : In-Some-rank_place) → c.in-Some-rank_place.k < most_lines
 few c = omega (arith, led c, c.loop-i.invariant.known.given.sound.few)
@@ -112,31 +109,36 @@ tail_row-row-requires c =
     let sound = k.given.sound in (
       subst (SoundLine a.shape.p a.shape.n) (sym (line-is (goal.at.tail_row-row-requires c).Start _ (few (goal.at.tail_row-row-requires c).In-Some-rank_place) _ c.line_at-g.ensures)) (sound.lines _ (led (goal.at.tail_row-row-requires c).In-Some-rank_place)),
       sound.variables.most,
-      omega (arith, k.ranked.size, k.given.irreducibles.few),
+      rw c.deref-in-Some-rank_place.ensures.0 (omega (arith, k.ranked.size, k.given.irreducibles.few)),
       sound.modulus.size,
     )
 
 pub row_for-row-requires : goal.row_for-row-requires
 row_for-row-requires c =
     let inv = c.loop-i.invariant in
-    let found = c.next_place.ensures in
-    let is = c.in-Some.is in
-    (rw c.new-field.ensures inv.filling.stored, inv.known.ranked, fill-product inv found is, fill-through inv found is c.rank_place.ensures c.in-None.is)
+    let next = c.next_place.ensures in
+    let is = c.in-Some.is in (
+      rw c.new-field.ensures inv.filling.stored,
+      rw c.deref-in-None.ensures.0 inv.known.ranked,
+      fill-product inv next is,
+      fill-through inv next is (found (goal.at.row_for-row-requires c).After-rank_place) c.in-None.is,
+    )
 
 -- The row that is stored.
 row : (c : Joined-rank_place) → RowFor (lent (goal.at.Joined-rank_place c).Start) c.args.irreducibles.now (tables_of c.loop-i.cells) c.in-Some.i (cursor c.loop-i.c c.in-Some.i) c.match-rank_place.row
 row c =
     let inv = c.loop-i.invariant in
-    let found = c.next_place.ensures in
-    let next = c.in-Some.is in
+    let next = c.next_place.ensures in
+    let some = c.in-Some.is in
+    let place = found (goal.at.Joined-rank_place c).After-rank_place in
     let is = RowFor (lent (goal.at.Joined-rank_place c).Start) c.args.irreducibles.now (tables_of c.loop-i.cells) c.in-Some.i (cursor c.loop-i.c c.in-Some.i) in
     elim c.match-rank_place.branch [
       | in-Some-rank_place w ↦
           let s = w.in-Some-rank_place.is in
           subst is (sym w.row-is)
-          (fill-led inv found next c.rank_place.ensures s
-          (subst (λ g. TailRow c.args.shape.p c.args.shape.n g c.args.irreducibles.now w.tail_row-row.result) (line-is (goal.at.Joined-rank_place c).Start _ (omega (arith, fill-line inv found next c.rank_place.ensures s, inv.known.given.sound.few)) _ w.line_at-g.ensures) (w.tail_row-row.ensures _ (fill-distinct inv))))
-      | in-None w ↦ subst is (sym w.row-is) (fill-made inv found next c.rank_place.ensures w.in-None.is (rw c.new-field.ensures at w.row_for-row.ensures))
+          (fill-led inv next some place s
+          (subst (λ g. TailRow c.args.shape.p c.args.shape.n g c.args.irreducibles.now w.tail_row-row.result) (line-is (goal.at.Joined-rank_place c).Start _ (omega (arith, fill-line inv next some place s, inv.known.given.sound.few)) _ w.line_at-g.ensures) ((rw w.deref-in-Some-rank_place.ensures.0 at w.tail_row-row.ensures) _ (fill-distinct inv))))
+      | in-None w ↦ subst is (sym w.row-is) (fill-made inv next some place w.in-None.is (rw c.new-field.ensures at w.row_for-row.ensures))
     ]
 
 pub put_row-requires : goal.put_row-requires
@@ -167,7 +169,7 @@ pub product_rank-requires : goal.product_rank-requires
 product_rank-requires c =
     let ranked = c.loop-i.invariant.known.ranked in
     let n = ranked.listing.variables in
-    (all-bounded ranked, variables-bounded _ n ranked.variables _ (bounds (goal.at.product_rank-requires c).In-Some).0)
+    (rw c.deref-in-Some-2.ensures.0 (all-bounded ranked), variables-bounded _ n ranked.variables _ (bounds (goal.at.product_rank-requires c).In-Some).0)
 
 pub offset_bounds-next-i-in-Some : goal.offset_bounds-next-i-in-Some
 offset_bounds-next-i-in-Some c = omega (arith, bounds (goal.at.offset_bounds-next-i-in-Some c).In-Some)
@@ -182,7 +184,7 @@ loop-i-smaller c =
 
 pub loop-i-preserved : goal.loop-i-preserved
 loop-i-preserved c =
-    fill-turn c.loop-i.invariant c.next_place.ensures c.in-Some.is c.product_rank.ensures (row (goal.at.loop-i-preserved c).Joined-rank_place) (rw c.row_start.ensures at c.put_row.ensures)
+    fill-turn c.loop-i.invariant c.next_place.ensures c.in-Some.is (rw c.deref-in-Some-2.ensures.0 at c.product_rank.ensures) (row (goal.at.loop-i-preserved c).Joined-rank_place) (rw c.row_start.ensures at c.put_row.ensures)
 
 pub shape_of-cells : goal.shape_of-cells
 shape_of-cells c = c.loop-i.invariant.filling.stored.size ∙ sym (no-rows-length c.requires.0)

@@ -7,7 +7,7 @@ use Rattle.multiplication.proofs.fill.fill.Given as goal
 
 abbrev pub invariant-loop-i : goal.invariant-loop-i
 invariant-loop-i l =
-    FillLoop (basis_in l.shape l.counts l.coefficients l.exponents) l.irreducibles l.ranks.items l.variables l.leads.items l.lead_ranks.items l.cells l.c l.next
+    FillLoop (basis_in l.shape l.counts l.coefficients l.exponents) l.irreducibles l.ranks.items l.variables l.lead_ranks.items l.cells l.c l.next
 
 abbrev pub decreases-loop-i : goal.decreases-loop-i
 decreases-loop-i l = cursor_room l.c.at (length l.irreducibles)

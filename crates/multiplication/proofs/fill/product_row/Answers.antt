@@ -38,11 +38,11 @@ found c =
 
 pub unwrap-at-requires : goal.unwrap-at-requires
 unwrap-at-requires c = let (_, _, _, through) = c.requires in
-    place-some _ (found c) (through.inside _ (passes_at (goal.at.unwrap-at-requires c).After-variable_through-j))
+    place-some _ _ _ (found c) (through.inside _ (passes_at (goal.at.unwrap-at-requires c).After-variable_through-j))
 
 place_at : (c : After-unwrap-at) → let a = c.args in let l = a.irreducibles.now in
     PlaceAt a.n (listed a.n l) (quotient a.n (listed_at a.n l a.place) (variable a.n c.variable_through-j.result)) c.unwrap-at.result
-place_at c = rw c.unwrap-at.ensures at found (goal.at.After-unwrap-at c).After-rank_place
+place_at c = rw c.unwrap-at.ensures at (found (goal.at.After-unwrap-at c).After-rank_place)
 
 -- The row of x_i·B_s / x_j has its place among the rows.
 inside : (c : After-unwrap-at) → let a = c.args in (a.i < most_variables) × (c.unwrap-at.result < most_standard)
@@ -53,7 +53,7 @@ inside c =
 pub variable_through-j-requires : goal.variable_through-j-requires
 variable_through-j-requires c =
     let (_, ranked, of, through) = c.requires in
-    (ranked.variables.many, ranked.listing.variables, ranked.rising, rw (rows_at c.args.n c.args.irreducibles.now c.args.place) at some-passes ranked of through)
+    (ranked.variables.many, ranked.listing.variables, ranked.rising, rw (rows_at c.args.n c.args.irreducibles.now c.args.place) at (some-passes ranked of through))
 
 pub bounds-ranks-place : goal.bounds-ranks-place
 bounds-ranks-place c = let (_, ranked, of, _) = c.requires in omega (arith, ranked.ranks.many, of.inside)

@@ -13,7 +13,7 @@ use Rattle.staircase.specs.Listed.{listed, Place}
 use Rattle.staircase.proofs.ArrayRows.{no_monomial}
 use Rattle.multiplication.specs.Tails.{DistinctRanks}
 use Rattle.multiplication.proofs.ListPlaces.{list-place}
-use Rattle.multiplication.proofs.TailRows.{gathered_none, gathered-small, gathered-more}
+use Rattle.multiplication.proofs.TailRows.{gathered_none, gathered-small, gathered-more, gathered-all}
 use Rattle.multiplication.proofs.fill.tail_row.Goals.{After-rank_place-at}
 use Rattle.multiplication.proofs.fill.tail_row.Goals as goal
 
@@ -37,3 +37,6 @@ subtract_at-r-requires c =
 pub loop-k-preserved : goal.loop-k-preserved
 loop-k-preserved c =
     gathered-more c.loop-k.invariant c.loop-k-test.true (place (goal.at.loop-k-preserved c).After-rank_place-at) c.subtract_at-r.ensures
+
+pub returns : goal.returns
+returns c = gathered-all c.loop-k.invariant (omega arith)
