@@ -19,7 +19,7 @@ use Rattle.monomial.proofs.RankOrder.{rank-injective}
 use Rattle.monomial.proofs.RankPlaces.{ranks-less}
 use Rattle.groebner.specs.Lines.{RisingList}
 use Rattle.staircase.specs.Leads.{rows_of}
-use Rattle.staircase.specs.Listed.{PlaceAt, Place}
+use Rattle.staircase.specs.Listed.{Place}
 use Rattle.staircase.proofs.ArrayRows.{no_monomial, rows_at}
 use Rattle.staircase.proofs.RisingPlaces.{rising-at}
 
@@ -41,12 +41,13 @@ list-ranked n ms pushed e = (
 pub ranks-rising : (n : ℕ) {B : List (Row n)} {count : ℕ} {ranks : List ℕ} → RanksOf n B count ranks → RisingList (Grevlex n) B → length B ≡ count → RisingRanks ranks count
 ranks-rising n {B} are rising size j k h u = (ranks-less n are j k (omega (arith, h, u)) u).0 (rising-at (Grevlex n) B (one n) rising j k h (omega (arith, u, size)))
 
-pub rank-place : (n : ℕ) {B : List (Row n)} {ranks : List ℕ} {m : Row n} {w : ℕ} → RanksOf n B (length B) ranks
-    → IsRank n m w → (r : Option ℕ) → FirstRank ranks (length B) w r → Place n B m r
-rank-place n {B} {ranks} {m} are (e, s) (Some r) p =
+pub rank-place : (n : ℕ) {B : List (Row n)} {count : ℕ} {ranks : List ℕ} {m : Row n} {w : ℕ} → RanksOf n B count ranks → length B ≡ count
+    → IsRank n m w → (r : Option ℕ) → FirstRank ranks count w r → Place n B m r
+rank-place n {B} {count} {ranks} {m} are size (e, s) (Some r) p =
     let q = p.some r refl in record {
-      within = q.within;
+      within = omega (arith, q.within, size);
       found = rank-injective n _ m (are.short r q.within) s (sym (are.rank r q.within) ∙ q.found ∙ e);
-      first = λ j h f. let u : j < length B = omega (arith, q.within) in q.first j h (are.rank j u ∙ ap (rank_of n) f ∙ sym e);
+      first = λ j h f. let u : j < count = omega (arith, q.within) in q.first j h (are.rank j u ∙ ap (rank_of n) f ∙ sym e);
     }
-rank-place n {B} {ranks} {m} are (e, s) None p = λ k u f. p.none refl k u (are.rank k u ∙ ap (rank_of n) f ∙ sym e)
+rank-place n {B} {count} {ranks} {m} are size (e, s) None p =
+    λ k u f. let v : k < count = omega (arith, size) in p.none refl k v (are.rank k v ∙ ap (rank_of n) f ∙ sym e)

@@ -1,5 +1,5 @@
 -- `list_irreducibles` meets its contract. The loop's invariant: the monomials before m are listed, in rising order.
-use mathlib.Core.Path.{◌≡◌, refl, sym, ◌∙◌, subst}
+use mathlib.Core.Path.{◌≡◌}
 use native.Mathlib.Omega.{arith}
 use lib.ListN.{take}
 use Rattle.monomial.specs.Orders.{variables}

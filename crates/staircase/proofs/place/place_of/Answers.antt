@@ -1,5 +1,4 @@
 -- `place_of` meets its contract.
-use mathlib.Core.Path.{◌≡◌}
 use Rattle.std.proofs.Common.{rules, tests}
 use Rattle.std.proofs.lemmas.Iterator.{YieldsList-from_slice, IsFirst-from_position}
 use Rattle.staircase.proofs.PlacesInLists.{Is, Other, place-first}
