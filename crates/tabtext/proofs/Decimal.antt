@@ -1,10 +1,10 @@
 -- Numbers in decimal digits.
 --   number-digit     a number below 10 is its digit
---   number_last      the same, and its last digit
 --   number_more      any other is its tenth, and its last digit
 --   width-1, width-2, width-3, width-4, width-5
 --                    how many digits a number has
 --   width-more       a number above 9 has one digit more than its tenth
+--   width-more-4     a number above 9999 has four digits more than its ten thousandth
 use Prim.Native.Nat.{ℕ, zero, suc, ◌+◌, ◌/◌, ◌%◌, ◌≤◌, ◌<◌}
 use mathlib.Core.Path.{◌≡◌, ap, ◌∙◌}
 use mathlib.Core.List.{[], ◌∷◌, ◌++◌}
@@ -31,9 +31,6 @@ pub number-digit : (v : ℕ) → v < 10 → decimal v ≡ (48 + v) ∷ []
 unfolding decimal
 number-digit v h = rw (decimal, digits, lt-ltb v 10 h)
 
-pub number_last : (v : ℕ) → v ≤ 9 → decimal v ≡ (48 + v % 10) ∷ []
-number_last v h = number-digit v (omega arith) ∙ ap (λ k. (48 + k) ∷ []) (omega arith)
-
 pub number_more : (v : ℕ) → 10 ≤ v → decimal v ≡ decimal (v / 10) ++ ((48 + v % 10) ∷ [])
 unfolding decimal
 number_more v h =
@@ -45,6 +42,18 @@ width-1 v h = ap length (number-digit v h)
 
 pub width-more : (v : ℕ) → 10 ≤ v → length (decimal v) ≡ length (decimal (v / 10)) + 1
 width-more v h = ap length (number_more v h) ∙ length-append (decimal (v / 10)) ((48 + v % 10) ∷ [])
+
+pub width-more-4 : (v : ℕ) → 10000 ≤ v → length (decimal v) ≡ length (decimal (v / 10000)) + 4
+width-more-4 v h =
+    let e : v / 10 / 10 / 10 / 10 ≡ v / 10000 = omega arith in
+    omega (
+      arith,
+      width-more v (omega arith),
+      width-more (v / 10) (omega arith),
+      width-more (v / 10 / 10) (omega arith),
+      width-more (v / 10 / 10 / 10) (omega arith),
+      ap (λ k. length (decimal k)) e,
+    )
 
 pub width-2 : (v : ℕ) → 10 ≤ v → v < 100 → length (decimal v) ≡ 2
 width-2 v h k = omega (arith, width-more v h, width-1 (v / 10) (omega arith))

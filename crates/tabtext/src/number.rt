@@ -1,10 +1,8 @@
 // Numbers of 1 to 5 digits with no leading zero, except 0 itself: read and printed.
-ghost use Rattle.std.specs.Prelude.{◌≡◌, ◌≤◌, length};
+ghost use Rattle.std.specs.Prelude.{◌≡◌, ◌+◌, ◌≤◌, length};
 ghost use Rattle.tabtext.specs.Text.{Number as Small, decimal};
 ghost use Rattle.tabtext.specs.Readers.{read_number};
 ghost use Rattle.tabtext.specs.Answers.{DigitSays, NumberSays};
-
-use crate::sink::Sink;
 
 // The value of the digit at a place, where one stands.
 fn digit_at(text: &[u8], i: usize) -> Option<u32>
@@ -38,14 +36,21 @@ pub fn read_number(text: &[u8], at: usize) -> Option<(u32, usize)>
     Some((v, end))
 }
 
-// Prints v.
-pub fn print_number<S: Sink>(sink: &mut S, v: u32)
-    requires { S.takes sink.old (length (decimal v)) }
-    ensures printed { sink.new ≡ S.after sink.old (decimal v) }
-    ensures short { Small v → length (decimal v) ≤ 5 }
+// How many bytes a number is printed in.
+pub fn number_width(v: u32) -> usize
+    ensures width { result ≡ length (decimal v) }
+    ensures short { Small v → result ≤ 5 }
+    ensures fits { result ≤ v + 1 }
 {
-    if 9 < v {
-        print_number(&mut *sink, v / 10);
+    if v < 10 {
+        1
+    } else if v < 100 {
+        2
+    } else if v < 1000 {
+        3
+    } else if v < 10000 {
+        4
+    } else {
+        4 + number_width(v / 10000)
     }
-    sink.put(b'0' + (v % 10) as u8);
 }

@@ -18,7 +18,6 @@ ghost use Rattle.lines.specs.LineTerms.{exponents_of};
 ghost use Rattle.tabtext.specs.Text.{Number, header, decimal, dotted, term};
 ghost use Rattle.tabtext.specs.Printed.{generator_line, standard_line, printed, count_line};
 
-use crate::number::print_number;
 use crate::sink::Sink;
 use lines::line::Generator;
 use monomial::{Exponent, Monomial};
@@ -30,7 +29,7 @@ fn print_after<S: Sink>(sink: &mut S, separator: u8, v: u32)
     ensures { sink.new ≡ S.after sink.old (separator ∷ decimal v) }
 {
     sink.put(separator);
-    print_number(&mut *sink, v);
+    sink.put_number(v);
 }
 
 // An exponent, as a number.
@@ -53,7 +52,7 @@ pub fn print_exponents<S: Sink>(sink: &mut S, m: Monomial, n: usize)
     ensures printed { sink.new ≡ S.after sink.old (dotted (exponents_of n m)) }
     ensures short { length (dotted (exponents_of n m)) ≤ 24 }
 {
-    print_number(&mut *sink, exponent_at(m, 0));
+    sink.put_number(exponent_at(m, 0));
     for j in 1..n {
         print_after(&mut *sink, b'.', exponent_at(m, j));
     }
@@ -64,7 +63,7 @@ pub fn print_term<S: Sink>(sink: &mut S, c: Residue, m: Monomial, n: usize)
     ensures printed { sink.new ≡ S.after sink.old (term (c.0, exponents_of n m)) }
     ensures short { length (term (c.0, exponents_of n m)) ≤ 30 }
 {
-    print_number(&mut *sink, c.0 as u32);
+    sink.put_number(c.0 as u32);
     sink.put(b':');
     print_exponents(&mut *sink, m, n);
 }

@@ -1,11 +1,14 @@
-// Sinks: where the bytes of a text go. What is printed to any sink is counted or written.
+// Sinks: where the bytes of a text go. One printer serves to count the bytes and to write them.
 //
 //   Sink    a place for bytes, one after the other
 //   Count   counts the bytes
 //   Front   writes them into a lent slice, from a place on
 ghost use Rattle.std.specs.Prelude.{◌≡◌, ℕ, [], ◌∷◌, length};
 ghost use Rattle.lists.specs.Lists.{Bytes};
+ghost use Rattle.tabtext.specs.Text.{decimal};
 ghost use Rattle.tabtext.specs.Sinks.{SinkLaws, CountTakes, counted, count_laws, FrontTakes, written, front_laws};
+
+use crate::number::number_width;
 
 pub trait Sink {
     // It takes so many bytes more.
@@ -25,6 +28,11 @@ pub trait Sink {
         self.put_bytes(&[byte]);
     }
 
+    // The digits of v. The count asks for none of them, so each sink has its own way.
+    fn put_number(&mut self, v: u32)
+        requires { takes self.old (length (decimal v)) }
+        ensures { self.new ≡ after self.old (decimal v) };
+
     ghost laws: { SinkLaws takes after };
 }
 
@@ -43,6 +51,10 @@ impl Sink for Count {
 
     fn put_bytes(&mut self, bytes: &[u8]) {
         self.bytes = self.bytes.saturating_add(bytes.len());
+    }
+
+    fn put_number(&mut self, v: u32) {
+        self.bytes = self.bytes.saturating_add(number_width(v));
     }
 }
 
@@ -64,5 +76,14 @@ impl Sink for Front<'_> {
         let end = self.at + bytes.len();
         self.out[self.at..end].copy_from_slice(bytes);
         self.at = end;
+    }
+
+    fn put_number(&mut self, v: u32) {
+        if v < 10 {
+            self.put(b'0' + v as u8);
+            return;
+        }
+        self.put_number(v / 10);
+        self.put(b'0' + (v % 10) as u8);
     }
 }

@@ -34,8 +34,8 @@ parted : (g : _) (c : After-exponent_at g) →
     dotted e ≡ decimal c.exponent_at.result ++ fields_from decimal 46 e [] 1
 parted g c = exponents-after _ _ (first g c)
 
-pub print_number-requires : goal.print_number-requires
-print_number-requires g c =
+pub put_number-requires : goal.put_number-requires
+put_number-requires g c =
     let laws = g.met.S.Sink.laws in
     left-room laws (decimal c.exponent_at.result) _ (parted g c) (left-all laws refl c.requires.1)
 
@@ -44,8 +44,8 @@ loop-j-init g c =
     let laws = g.met.S.Sink.laws in
     let s = (goal.at.loop-j-init g c).After-exponent_at in
     record {
-      left = left_less laws _ _ (parted g s) (left-all laws refl c.requires.1) c.print_number.ensures.printed;
-      short = each_more (λ v. length (decimal v) < 6) _ 0 _ (first g s) (omega (arith, c.print_number.ensures.short c.exponent_at.ensures.1)) tt;
+      left = left_less laws _ _ (parted g s) (left-all laws refl c.requires.1) c.put_number.ensures;
+      short = each_more (λ v. length (decimal v) < 6) _ 0 _ (first g s) (omega (arith, number-width-5 _ c.exponent_at.ensures.1)) tt;
     }
 
 -- The exponent that is printed stands at place j.
