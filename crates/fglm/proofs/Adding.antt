@@ -24,8 +24,7 @@ use Rattle.groebner.specs.CoefficientRows.{multiply}
 use Rattle.lines.specs.Sizes.{most_standard}
 use Rattle.coordinates.specs.Vectors.{vector, FirstPlace}
 use Rattle.coordinates.specs.declared.Coordinates.{Coordinates}
-use Rattle.coordinates.specs.declared.vectors.Found.{Found}
-use Rattle.coordinates.specs.declared.vectors.Found.TheVariants.{Pivot, Dependent}
+use Rattle.std.specs.Prelude.{Option, Some, None}
 use Rattle.coordinates.proofs.VectorEntries.{vector-entry}
 use Rattle.coordinates.proofs.FirstPlaces.{first_place, first-of-place}
 use Rattle.fglm.specs.RowState.{State, residual_of, reduced_row, no_row, row_at, state_of, SoundRow, SoundRows}
@@ -56,7 +55,7 @@ module _ (t : Reciprocals) {s : Rows} {v : Coordinates} {x : Residual} (left : L
   abbrev p : ℕ
   p = t.field.p
 
-  pub answer-left : (prime : Prime p) (o : Found) → FirstPlace x.row o
+  pub answer-left : (prime : Prime p) (o : Option ℕ) → FirstPlace x.row o
       → answer t prime s v ≡ chosen p prime.above_one (table_inverse t prime.above_one) (state_of p prime.above_one s) (residual_of p prime.above_one x) (first_place o)
   unfolding answer
   answer-left prime o f =
@@ -66,12 +65,12 @@ module _ (t : Reciprocals) {s : Rows} {v : Coordinates} {x : Residual} (left : L
       h : 1 < p
       h = prime.above_one
 
-  pub answer-dependent : {c : Coordinates} → FirstPlace x.row Dependent → Dependence p x c → (prime : Prime p) → answer t prime s v ≡ inl (vector p prime.above_one c)
+  pub answer-dependent : {c : Coordinates} → FirstPlace x.row None → Dependence p x c → (prime : Prime p) → answer t prime s v ≡ inl (vector p prime.above_one c)
   answer-dependent f r prime = let h = prime.above_one in
-      answer-left prime Dependent f
+      answer-left prime None f
       ∙ ap inl (sym (r.residues h ∙ ap (λ y. multiply (modulo p h) y (vector p h x.combination)) (residue-negation p h 1 h ∙ ap (modulo p h).neg (residue-one p h))))
 
-  module _ {k : ℕ} (first : FirstPlace x.row (Pivot k)) where
+  module _ {k : ℕ} (first : FirstPlace x.row (Some k)) where
     module _ {q : Reduced} (made : Scaled t x k q) where
       pub row_scaled : SoundRow p q
       row_scaled = record { place = subst (◌< most_standard) (sym made.pivot) first.0; vectors = sound-residual made.row made.combination }
@@ -124,5 +123,5 @@ module _ (t : Reciprocals) {s : Rows} {v : Coordinates} {x : Residual} (left : L
 
         pub answer-inserted : (prime : Prime p) → answer t prime s v ≡ inr (state_of p prime.above_one r)
         answer-inserted prime = let h = prime.above_one in
-            answer-left prime (Pivot k) first
+            answer-left prime (Some k) first
             ∙ ap inr (sym (ap (state_of p h) i.is ∙ state-grown i.cleared size sound room h ∙ ap (λ y. inserted p h y (state_of p h s)) (scaled-is h)))

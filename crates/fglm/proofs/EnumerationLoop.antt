@@ -9,14 +9,14 @@
 --   after-standard, after_line                         the two outcomes of a visit
 --   onward                                             the next monomial
 use mathlib.Core.Path.{◌≡◌, sym, ◌∙◌, ap, ap₂, subst}
-use mathlib.Core.Bool.{Bool, true, false}
 use mathlib.Core.List.{List, [], ◌∷◌, ◌++◌}
 use mathlib.Core.Logic.{by_cases}
 use Prim.Native.Nat.{ℕ, suc, ◌+◌, ◌*◌, ◌≤◌, ◌<◌}
 use native.Mathlib.Nat.{mul-le-mul_left}
 use native.Mathlib.Decide.{dec_lt}
 use native.Mathlib.Omega.{arith}
-use lib.ListN.{length, take, set, length-set}
+use lib.ListN.{length, take, set, length-set, length-append}
+use Rattle.std.specs.Prelude.{Option, Some, None, option_map, IfSome}
 use lib.Seq.{take-suc-set}
 use Rattle.lists.specs.Lists.{Each}
 use Rattle.lists.proofs.EachElement.{each_last}
@@ -41,14 +41,11 @@ use Rattle.lines.specs.declared.line.Generator.{Generator}
 use Rattle.lines.proofs.Lines.{lines-length}
 use Rattle.staircase.specs.Leads.{rows_of, lead_monomials, multiple, FoundNext}
 use Rattle.staircase.specs.Listed.{listed}
-use Rattle.staircase.specs.declared.irreducible.Irreducibles.{Irreducibles}
-use Rattle.staircase.specs.declared.leads.Leads.{Leads}
 use Rattle.staircase.proofs.PaddedRows.{held-row, padded, one-held}
-use Rattle.staircase.proofs.RowsInTurn.{rows-store}
+use Rattle.staircase.proofs.RowsInTurn.{rows-push}
 use Rattle.coordinates.specs.Vectors.{Below, FullLength, FirstPlace}
 use Rattle.coordinates.specs.Rows.{RowPut}
 use Rattle.coordinates.specs.declared.Coordinates.{Coordinates}
-use Rattle.coordinates.specs.declared.vectors.Found.TheVariants.{Pivot, Dependent}
 use Rattle.coordinates.proofs.RowArrays.{put-kept}
 use Rattle.multiplication.specs.Rows.{Tables}
 use Rattle.fglm.specs.RowState.{SoundRows}
@@ -57,90 +54,84 @@ use Rattle.fglm.specs.Steps.{Dependence, Scaled, Inserted}
 use Rattle.fglm.specs.ImageRows.{most_images, image_at, DivisorsFound, ImageRow}
 use Rattle.fglm.specs.WrittenLines.{WrittenLine}
 use Rattle.fglm.specs.Found.{found_lines, found_standard, PrintableLine}
-use Rattle.fglm.specs.Enumerable.{Enumerable, EnumerationInput, Enumerated, Pushed}
+use Rattle.fglm.specs.Enumerable.{Enumerable, EnumerationInput, Enumerated}
 use Rattle.fglm.specs.declared.elimination.Reduced.{Reduced}
 use Rattle.fglm.specs.declared.elimination.Residual.{Residual}
 use Rattle.fglm.specs.declared.elimination.Rows.{Rows}
 use Rattle.fglm.proofs.Adding.{answer-left, answer-dependent, rows-inserted, answer-inserted}
 use Rattle.fglm.proofs.Promise.{enough-room, sound_none}
-use Rattle.fglm.proofs.PushedMonomials.{pushed-size, pushed-taken}
+use Rattle.fglm.proofs.PushedMonomials.{pushed-count}
 use Rattle.fglm.proofs.StandardRanks.{StandardRanked, ranked-none, ranked-more}
 use Rattle.fglm.proofs.Visits.{Setting, L, Stage, Progressed, progressed-none, to-visit-found, visit-exponents, visit-few, visit-lines}
 use Rattle.fglm.proofs.Visits.{visit-image, visit-line, visit-standard, visit-onward, visits-end}
 
 -- The parts of the state are within their arrays.
-pub record Kept (p n : ℕ) (ts cs es : List ℕ) (rs : Rows) (images ranks : List ℕ) (standard : Irreducibles) (ls : Leads) : Type 0 where
+pub record Kept (p n : ℕ) (ts cs es : List ℕ) (rs : Rows) (images ranks : List ℕ) (standard ls : List Monomial) : Type 0 where
   pub arrays : Arrays ts cs es
-  pub lines : ls.count ≤ most_lines
-  pub leads_size : length ls.monomials ≡ most_lines
-  pub printable : Each (PrintableLine p n) (take ls.count (lines_in ts cs es))
+  pub lines : length ls ≤ most_lines
+  pub printable : Each (PrintableLine p n) (take (length ls) (lines_in ts cs es))
   pub sound : SoundRows p rs
   pub rows_size : length rs.rows ≡ most_standard
-  pub used : rs.used ≡ standard.count
+  pub used : rs.used ≡ length standard
   pub images_size : length images ≡ most_images
-  pub images_below : (k : ℕ) → k < standard.count → Below p (image_at images k)
+  pub images_below : (k : ℕ) → k < length standard → Below p (image_at images k)
   pub ranked : StandardRanked n standard ranks
-  pub standard_size : length standard.monomials ≡ most_standard
-  pub standard_held : Each (Padded n) (take standard.count standard.monomials)
+  pub standard_held : Each (Padded n) standard
 
-module _ (t : Reciprocals) (n : ℕ) (s : List ℕ) (l : Irreducibles) (tables : Tables) where
-  -- The state stands for lines of the theory, and m is to be visited next; or none is.
-  pub record Enumerating (ts cs es : List ℕ) (rs : Rows) (images ranks : List ℕ) (standard : Irreducibles) (ls : Leads) (found : Bool) (m : Monomial) : Type 0 where
+module _ (t : Reciprocals) (n : ℕ) (s : List ℕ) (l : List Monomial) (tables : Tables) where
+  -- The state stands for lines of the theory, and r is to be visited next, if there is one.
+  pub record Enumerating (ts cs es : List ℕ) (rs : Rows) (images ranks : List ℕ) (standard ls : List Monomial) (r : Option Monomial) : Type 0 where
     pub given : EnumerationInput t n s l tables
-    pub size : length (listed n l) ≡ l.count
+    pub size : length (listed n l) ≡ length l
     pub kept : Kept t.field.p n ts cs es rs images ranks standard ls
-    pub held : Padded n m
+    pub held : IfSome r (Padded n)
     pub stage : (𝓢 : Setting t n s l tables)
         → (H : List (Line (ZMod t.field.p) (Row n))) × Progressed 𝓢 rs images standard ls (lines_in ts cs es) H
-        × Stage 𝓢 H (listed n standard) found (row n m)
+        × Stage 𝓢 H (listed n standard) (option_map (row n) r)
 
   -- m is visited, after as many others as are counted.
-  pub record VisitedOnce (before : ℕ) (ts cs es : List ℕ) (rs : Rows) (images ranks : List ℕ) (standard : Irreducibles) (ls : Leads) (m : Monomial) : Type 0 where
+  pub record VisitedOnce (before : ℕ) (ts cs es : List ℕ) (rs : Rows) (images ranks : List ℕ) (standard ls : List Monomial) (m : Monomial) : Type 0 where
     pub given : EnumerationInput t n s l tables
-    pub size : length (listed n l) ≡ l.count
+    pub size : length (listed n l) ≡ length l
     pub kept : Kept t.field.p n ts cs es rs images ranks standard ls
-    pub count : ls.count + standard.count ≡ suc before
+    pub count : length ls + length standard ≡ suc before
     pub seen : (𝓢 : Setting t n s l tables)
         → (H : List (Line (ZMod t.field.p) (Row n))) × Progressed 𝓢 rs images standard ls (lines_in ts cs es) H
         × Seen n (sequences (residue-field t.field.p 𝓢.prime).ring) (L 𝓢) (Lex n s) (UpTo (Lex n s) (row n m)) H (listed n standard)
 
-module _ {t : Reciprocals} {n : ℕ} {s : List ℕ} {l : Irreducibles} {tables : Tables} where
-  module _ (given : EnumerationInput t n s l tables) (size : length (listed n l) ≡ l.count) where
+module _ {t : Reciprocals} {n : ℕ} {s : List ℕ} {l : List Monomial} {tables : Tables} where
+  module _ (given : EnumerationInput t n s l tables) (size : length (listed n l) ≡ length l) where
     setting : (prime : Prime t.field.p) (G : List (Line (ZMod t.field.p) (Row n))) → Enumerable t.field.p prime n l tables G → Setting t n s l tables
     setting prime G en = record { prime = prime; ranking = given.ranking; lines = G; enumerable = en; size = size }
 
-    pub enumerating-start : {ts cs es : List ℕ} {rs : Rows} {images ranks : List ℕ} {standard : Irreducibles} {ls : Leads} {m : Monomial}
-        → Arrays ts cs es → rs.used ≡ 0 → standard.count ≡ 0 → ls.count ≡ 0
-        → length rs.rows ≡ most_standard → length images ≡ most_images → length ranks ≡ most_standard
-        → length standard.monomials ≡ most_standard → length ls.monomials ≡ most_lines
-        → m ≡ monomial most_variables (one most_variables) → Enumerating t n s l tables ts cs es rs images ranks standard ls true m
-    enumerating-start {ts} {cs} {es} {rs} {images} {ranks} {standard} {ls} {m} a e f g r i v j k q = record {
+    pub enumerating-start : {ts cs es : List ℕ} {rs : Rows} {images : List ℕ} {m : Monomial}
+        → Arrays ts cs es → rs.used ≡ 0 → length rs.rows ≡ most_standard → length images ≡ most_images
+        → m ≡ monomial most_variables (one most_variables) → Enumerating t n s l tables ts cs es rs images [] [] [] (Some m)
+    enumerating-start {ts} {cs} {es} {rs} {images} {m} a e r i q = record {
       given = given;
       size = size;
       kept = record {
         arrays = a;
         lines = omega arith;
-        leads_size = k;
-        printable = subst (λ d. Each (PrintableLine t.field.p n) (take d (lines_in ts cs es))) (sym g) tt;
+        printable = tt;
         sound = sound_none t.field.p rs e;
         rows_size = r;
-        used = e ∙ sym f;
+        used = e;
         images_size = i;
         images_below = λ k u. absurd (omega arith);
-        ranked = ranked-none n standard ranks v f;
-        standard_size = j;
-        standard_held = subst (λ d. Each (Padded n) (take d standard.monomials)) (sym f) tt;
+        ranked = ranked-none n;
+        standard_held = tt;
       };
       held = padded n (one n) (q ∙ one-held n given.variables.most);
-      stage = λ 𝓢. let w = progressed-none 𝓢 rs images standard ls (lines_in ts cs es) e f g in
-          ([], w.0, subst (Stage 𝓢 [] (listed n standard) true) (sym (held-row n (one n) (q ∙ one-held n given.variables.most))) w.1);
+      stage = λ 𝓢. let w = progressed-none 𝓢 rs images (lines_in ts cs es) e in
+          ([], w.0, subst (λ x. Stage 𝓢 [] (listed n []) (Some x)) (sym (held-row n (one n) (q ∙ one-held n given.variables.most))) w.1);
     }
 
-  module _ {ts cs es : List ℕ} {rs : Rows} {images ranks : List ℕ} {standard : Irreducibles} {ls : Leads} {m : Monomial} where
-    pub standard-fits : {found : Bool} → Enumerating t n s l tables ts cs es rs images ranks standard ls found m → standard.count ≤ most_standard
+  module _ {ts cs es : List ℕ} {rs : Rows} {images ranks : List ℕ} {standard ls : List Monomial} where
+    pub standard-fits : {r : Option Monomial} → Enumerating t n s l tables ts cs es rs images ranks standard ls r → length standard ≤ most_standard
     standard-fits e = omega (arith, e.kept.used, e.kept.sound.size)
 
-    module _ (e : Enumerating t n s l tables ts cs es rs images ranks standard ls true m) where
+    module _ {m : Monomial} (e : Enumerating t n s l tables ts cs es rs images ranks standard ls (Some m)) where
       -- The lines that are given, and their prime.
       first : Setting t n s l tables
       first = let prime = t.field.prime.prime in let (G, en) = e.given.lines prime in setting e.given e.size prime G en
@@ -153,117 +144,108 @@ module _ {t : Reciprocals} {n : ℕ} {s : List ℕ} {l : Irreducibles} {tables :
       next-exponents i k = let (H, q, v) = e.stage first in
           omega (arith, standard-fits e, visit-exponents first q v i k)
 
-      pub next-few : ls.count + standard.count ≤ n * most_standard
+      pub next-few : length ls + length standard ≤ n * most_standard
       next-few = let (H, q, v) = e.stage first in
           omega (arith, visit-few first q v, mul-le-mul_left n (standard-fits e))
 
-      pub next-lines : ls.count < most_lines
+      pub next-lines : length ls < most_lines
       next-lines = let (H, q, v) = e.stage first in
           omega (arith, visit-lines first q v e.given.variables.some (standard-fits e), e.given.variables.most)
 
       module _ {w : Coordinates} (whole : FullLength w) (i : ImageRow t.field.p n m images standard tables l w) where
         module _ {x : Residual} (left : LeftOf t.field.p rs w x) where
-          module _ {k : ℕ} (pivot : FirstPlace x.row (Pivot k)) where
+          module _ {k : ℕ} (pivot : FirstPlace x.row (Some k)) where
             pub rows-room : rs.used < most_standard
             unfolding first setting
             rows-room = let prime = t.field.prime.prime in let (H, q, v) = e.stage first in
                 enough-room t prime (L first) rs (listed n standard) q.echelon q.used (row n m) w
-                (visit-image first q whole i).1 _ (answer-left t left prime (Pivot k) pivot)
+                (visit-image first q whole i).1 _ (answer-left t left prime (Some k) pivot)
 
-            standard-room : standard.count < most_standard
+            standard-room : length standard < most_standard
             standard-room = omega (arith, rows-room, e.kept.used)
 
             pub after-standard : {q : Reduced} → Scaled t x k q → {rs' : Rows} → Inserted t.field.p q rs rs'
-                → {images' : List ℕ} → RowPut images (standard.count * most_standard) w images' → {u : ℕ} → (u ≡ rank_of n (row n m)) × Short n (row n m)
-                → {standard' : Irreducibles} → Pushed standard m standard'
-                → VisitedOnce t n s l tables (ls.count + standard.count) ts cs es rs' images' (set ranks standard.count u) standard' ls m
-            after-standard {q} made {rs'} inserted {images'} stored {u} rank {standard'} more = record {
+                → {images' : List ℕ} → RowPut images (length standard * most_standard) w images' → {u : ℕ} → (u ≡ rank_of n (row n m)) × Short n (row n m)
+                → VisitedOnce t n s l tables (length ls + length standard) ts cs es rs' images' (ranks ++ (u ∷ [])) (standard ++ (m ∷ [])) ls m
+            after-standard {q} made {rs'} inserted {images'} stored {u} rank = record {
               given = e.given;
               size = e.size;
               kept = record {
                 arrays = e.kept.arrays;
                 lines = e.kept.lines;
-                leads_size = e.kept.leads_size;
                 printable = e.kept.printable;
                 sound = rows-inserted t left pivot made inserted e.kept.rows_size e.kept.sound rows-room;
                 rows_size = ap (λ r. length r.rows) inserted.is ∙ length-set inserted.others.rows rs.used q ∙ inserted.cleared.size
                     ∙ e.kept.rows_size;
-                used = omega (arith, used, more.count, e.kept.used);
+                used = omega (arith, used, pushed-count standard m, e.kept.used);
                 images_size = stored.size ∙ e.kept.images_size;
-                images_below = λ j u. by_cases (dec_lt j standard.count) (λ v. subst (Below t.field.p) (sym (before j v)) (e.kept.images_below j v))
-                    (λ v. let f : j ≡ standard.count = omega (arith, more.count) in subst (Below t.field.p) (sym (ap (image_at images') f ∙ stored.own)) i.below);
-                ranked = ranked-more e.kept.ranked room e.kept.standard_size rank more;
-                standard_size = pushed-size more ∙ e.kept.standard_size;
-                standard_held = subst (Each (Padded n)) (sym (pushed-taken more room)) (each_last (Padded n) (take standard.count standard.monomials) e.kept.standard_held e.held);
+                images_below = λ j u. by_cases (dec_lt j (length standard)) (λ v. subst (Below t.field.p) (sym (before j v)) (e.kept.images_below j v))
+                    (λ v. let f : j ≡ length standard = omega (arith, u, v, pushed-count standard m) in subst (Below t.field.p) (sym (ap (image_at images') f ∙ stored.own)) i.below);
+                ranked = ranked-more m e.kept.ranked rank;
+                standard_held = each_last (Padded n) standard e.kept.standard_held e.held;
               };
-              count = omega (arith, more.count);
+              count = omega (arith, pushed-count standard m);
               seen = λ 𝓢. let (H, o, v) = e.stage 𝓢 in
                   let (normal, image) = visit-image 𝓢 o whole i in
                   let r = visit-standard 𝓢 o m v w image rs' (answer-inserted t left pivot made inserted e.kept.rows_size e.kept.sound rows-room 𝓢.prime) used
-                  standard' more room images' before stored.own normal in
+                  images' before stored.own normal in
                   (H, r.0, r.1);
             }
               where
-                room : standard.count < length standard.monomials
-                room = omega (arith, standard-room, e.kept.standard_size)
-
                 used : rs'.used ≡ rs.used + 1
                 used = ap (λ r. r.used) inserted.is
 
-                before : (j : ℕ) → j < standard.count → image_at images' j ≡ image_at images j
+                before : (j : ℕ) → j < length standard → image_at images' j ≡ image_at images j
                 before j u = put-kept stored (omega (arith, standard-room, e.kept.images_size)) (j * most_standard) (omega arith)
 
-          pub after_line : FirstPlace x.row Dependent → {c : Coordinates} → Dependence t.field.p x c → {g : Generator} → WrittenLine t.field.p n m c standard g
-              → {ts' cs' es' : List ℕ} → Hold (set (lines_in ts cs es) ls.count g) ts' cs' es'
-              → {ls' : Leads} → (ls'.count ≡ suc ls.count) × (ls'.monomials ≡ set ls.monomials ls.count m)
-              → VisitedOnce t n s l tables (ls.count + standard.count) ts' cs' es' rs images ranks standard ls' m
-          after_line none {c} opposite {g} written {ts'} {cs'} {es'} stored {ls'} (count, leads) = record {
+          pub after_line : FirstPlace x.row None → {c : Coordinates} → Dependence t.field.p x c → {g : Generator} → WrittenLine t.field.p n m c standard g
+              → {ts' cs' es' : List ℕ} → Hold (set (lines_in ts cs es) (length ls) g) ts' cs' es'
+              → VisitedOnce t n s l tables (length ls + length standard) ts' cs' es' rs images ranks standard (ls ++ (m ∷ [])) m
+          after_line none {c} opposite {g} written {ts'} {cs'} {es'} stored = record {
             given = e.given;
             size = e.size;
             kept = record {
               arrays = stored.arrays;
-              lines = omega (arith, next-lines);
-              leads_size = ap length leads ∙ length-set ls.monomials ls.count m ∙ e.kept.leads_size;
-              printable = subst (Each (PrintableLine t.field.p n)) (sym taken) (each_last (PrintableLine t.field.p n) (take ls.count (lines_in ts cs es)) e.kept.printable written.printable);
+              lines = omega (arith, next-lines, pushed-count ls m);
+              printable = subst (Each (PrintableLine t.field.p n)) (sym taken) (each_last (PrintableLine t.field.p n) (take (length ls) (lines_in ts cs es)) e.kept.printable written.printable);
               sound = e.kept.sound;
               rows_size = e.kept.rows_size;
               used = e.kept.used;
               images_size = e.kept.images_size;
               images_below = e.kept.images_below;
               ranked = e.kept.ranked;
-              standard_size = e.kept.standard_size;
               standard_held = e.kept.standard_held;
             };
-            count = omega (arith, count);
+            count = omega (arith, pushed-count ls m);
             seen = λ 𝓢. let (H, q, v) = e.stage 𝓢 in
                 visit-line 𝓢 q m v w (visit-image 𝓢 q whole i).1
-                c (answer-dependent t left none opposite 𝓢.prime) g written (lines_in ts' cs' es') stored.lines room ls' leads-more count;
+                c (answer-dependent t left none opposite 𝓢.prime) g written (lines_in ts' cs' es') stored.lines room (ls ++ (m ∷ [])) leads-more (pushed-count ls m);
           }
             where
-              room : ls.count < length (lines_in ts cs es)
+              room : length ls < length (lines_in ts cs es)
               room = omega (arith, next-lines, lines-length ts cs es)
 
-              taken : take ls'.count (lines_in ts' cs' es') ≡ take ls.count (lines_in ts cs es) ++ (g ∷ [])
-              taken = ap₂ take count stored.lines ∙ take-suc-set (lines_in ts cs es) ls.count g room
+              taken : take (length (ls ++ (m ∷ []))) (lines_in ts' cs' es') ≡ take (length ls) (lines_in ts cs es) ++ (g ∷ [])
+              taken = ap₂ take (pushed-count ls m) stored.lines ∙ take-suc-set (lines_in ts cs es) (length ls) g room
 
-              leads-more : lead_monomials n ls' ≡ lead_monomials n ls ++ (row n m ∷ [])
-              leads-more = ap₂ (rows_of n) count leads ∙ rows-store n ls.count ls.monomials m (omega (arith, next-lines, e.kept.leads_size))
+              leads-more : lead_monomials n (ls ++ (m ∷ [])) ≡ lead_monomials n ls ++ (row n m ∷ [])
+              leads-more = rows-push n ls m
 
-    pub onward : {b : ℕ} → VisitedOnce t n s l tables b ts cs es rs images ranks standard ls m → {found : Bool} {r : Monomial}
-        → FoundNext n s (multiple n (lead_monomials n ls)) (row n m) found r → Enumerating t n s l tables ts cs es rs images ranks standard ls found r
-    onward v {found} {r} next = record {
+    pub onward : {b : ℕ} {m : Monomial} → VisitedOnce t n s l tables b ts cs es rs images ranks standard ls m → {r : Option Monomial}
+        → FoundNext n s (multiple n (lead_monomials n ls)) (row n m) r → Enumerating t n s l tables ts cs es rs images ranks standard ls r
+    onward {m = m} v {r} next = record {
       given = v.given;
       size = v.size;
       kept = v.kept;
       held = next.padded;
-      stage = λ 𝓢. let (H, q, u) = v.seen 𝓢 in (H, q, visit-onward 𝓢 q u found (row n r) next.is_next);
+      stage = λ 𝓢. let (H, q, u) = v.seen 𝓢 in (H, q, visit-onward 𝓢 q u (option_map (row n) r) next.is_next);
     }
 
-    pub enumerating-stop : {found : Bool} → found ≡ false → Enumerating t n s l tables ts cs es rs images ranks standard ls found m
-        → Enumerated t n s l tables (record { lines = ls.count; generators = lines_in ts cs es; count = standard.count; standard = standard.monomials })
+    pub enumerating-stop : Enumerating t n s l tables ts cs es rs images ranks standard ls None
+        → Enumerated t n s l tables (record { lines = length ls; generators = lines_in ts cs es; standard = standard })
     unfolding found_lines found_standard rows_of setting
-    enumerating-stop e v = record {
+    enumerating-stop v = record {
       printable = record { lines = v.kept.lines; each = v.kept.printable; count = standard-fits v; standard = v.kept.standard_held };
       outcome = λ prime G en. let 𝓢 = setting v.given v.size prime G en in let (H, q, u) = v.stage 𝓢 in
-          visits-end 𝓢 q (subst (λ f. Stage 𝓢 H (listed n standard) f (row n m)) e u);
+          visits-end 𝓢 q u;
     }

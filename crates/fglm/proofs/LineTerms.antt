@@ -15,7 +15,7 @@ use native.Mathlib.Nat.{mod-eq_of_lt}
 use native.Mathlib.Decide.{ℕ_discrete}
 use native.Mathlib.Omega.{arith}
 use lib.ListN.{length, get_or, set, take, drop, length-set, drop_of_length-le}
-use lib.Seq.{drop-cons, take-set-le}
+use lib.Seq.{drop-cons, take-set-le, take-length}
 use Rattle.lists.specs.Lists.{Each}
 use Rattle.lists.proofs.EachElement.{each_take, each_last}
 use Rattle.residue.specs.Modular.{negation_mod}
@@ -41,7 +41,6 @@ use Rattle.lines.proofs.AsRow.{as_row-exponents}
 use Rattle.lines.proofs.OneMoreTerm.{terms-take, longer, held-longer}
 use Rattle.staircase.specs.TermLines.{line_of}
 use Rattle.staircase.specs.Listed.{listed, listed_at}
-use Rattle.staircase.specs.declared.irreducible.Irreducibles.{Irreducibles}
 use Rattle.staircase.proofs.ArrayRows.{no_monomial, rows-length, rows_at}
 use Rattle.coordinates.specs.Vectors.{coordinate, vector, FullLength}
 use Rattle.coordinates.specs.declared.Coordinates.{Coordinates}
@@ -171,64 +170,60 @@ first-term {p} {n} {m} {none} {g} {x} above k e q w = record {
     alone : terms_in n g ≡ (x.0, exponents_of n m) ∷ []
     alone = w.terms n ∙ ap (◌++ ((x.0, exponents_of n m) ∷ [])) (no-terms n none e)
 
-listed-length : (n : ℕ) (l : Irreducibles) → l.count ≤ length l.monomials → length (listed n l) ≡ l.count
-listed-length n l full = rows-length n l.count l.monomials full
-
 -- The loop of `line_of`, from the line `first` on.
-module _ (p n : ℕ) (c : Coordinates) (l : Irreducibles) (first : Generator) where
+module _ (p n : ℕ) (c : Coordinates) (l : List Monomial) (first : Generator) where
   pub record Writing (g : Generator) (k : ℕ) : Type 0 where
     pub arrays : LineArrays g
-    pub within : k ≤ l.count
-    pub room : g.terms + k ≤ suc l.count
+    pub within : k ≤ length l
+    pub room : g.terms + k ≤ suc (length l)
     pub printable : PrintableLine p n g
     pub terms : (h : 1 < p) (field : Field (modulo p h)) → terms_as p h n (terms_in n g) ≡ terms_as p h n (terms_in n first) ++ placed field (drop k (listed n l)) (drop k (vector p h c))
 
-module _ {p n : ℕ} {c : Coordinates} {l : Irreducibles} {first : Generator} where
-  module _ (full : l.count ≤ length l.monomials) where
-    pub writing_start : {m : Monomial} → FirstTerm p n m first → LineArrays first → Writing p n c l first first l.count
+module _ {p n : ℕ} {c : Coordinates} {l : List Monomial} {first : Generator} where
+  pub writing_start : {m : Monomial} → FirstTerm p n m first → LineArrays first → Writing p n c l first first (length l)
+  unfolding placed
+  writing_start f arrays = record {
+    arrays = arrays;
+    within = omega arith;
+    room = omega (arith, f.count);
+    printable = f.printable;
+    terms = λ h field. sym (append-nil _)
+        ∙ ap (λ B. terms_as p h n (terms_in n first) ++ placed field B (drop (length l) (vector p h c))) (sym (drop_of_length-le (listed n l) {i = length l} (omega (arith, rows-length n l))));
+  }
+
+  module _ (fits : length l ≤ most_standard) (whole : FullLength c) where
+    pub writing-turn : {g r : Generator} {k j x : ℕ} → Each (Padded n) l → suc j ≡ k → Writing p n c l first g k
+        → x ≡ coordinate c j
+        → LessTerm p g x (get_or l j no_monomial) r → LineArrays r → Writing p n c l first r j
     unfolding placed
-    writing_start f arrays = record {
+    writing-turn {k = k} {j} {x} all e w q d arrays = record {
       arrays = arrays;
-      within = omega arith;
-      room = omega (arith, f.count);
-      printable = f.printable;
-      terms = λ h field. sym (append-nil _)
-          ∙ ap (λ B. terms_as p h n (terms_in n first) ++ placed field B (drop l.count (vector p h c))) (sym (drop_of_length-le (listed n l) {i = l.count} (omega (arith, listed-length n l full))));
+      within = omega (arith, w.within);
+      room = omega (arith, w.room, d.count);
+      printable = d.printable n ((each_take (Padded n) no_monomial (length l) l (omega arith)).0 (subst (Each (Padded n)) (sym (take-length l)) all) j inside) w.printable;
+      terms = λ h field. d.terms n h field ∙ ap (◌++ nonzero_term field ((modulo p h).neg (residue p h x)) (row n (get_or l j no_monomial))) (w.terms h field)
+          ∙ append_assoc (terms_as p h n (terms_in n first)) _ _
+          ∙ ap (terms_as p h n (terms_in n first) ++◌) (sym (ap₂ (placed field) monomials (coefficients h)
+          ∙ ap₂ (λ y z. placed field (drop k (listed n l)) (drop k (vector p h c)) ++ nonzero_term field ((modulo p h).neg y) z)
+          (vector-entry p h c j ∙ ap (residue p h) (sym q)) (rows_at n l j)));
     }
+      where
+        inside : j < length l
+        inside = omega (arith, w.within)
 
-    module _ (fits : l.count ≤ most_standard) (whole : FullLength c) where
-      pub writing-turn : {g r : Generator} {k j x : ℕ} → Each (Padded n) (take l.count l.monomials) → suc j ≡ k → Writing p n c l first g k
-          → x ≡ coordinate c j
-          → LessTerm p g x (get_or l.monomials j no_monomial) r → LineArrays r → Writing p n c l first r j
-      unfolding placed
-      writing-turn {k = k} {j} {x} all e w q d arrays = record {
-        arrays = arrays;
-        within = omega (arith, w.within);
-        room = omega (arith, w.room, d.count);
-        printable = d.printable n ((each_take (Padded n) no_monomial l.count l.monomials full).0 all j inside) w.printable;
-        terms = λ h field. d.terms n h field ∙ ap (◌++ nonzero_term field ((modulo p h).neg (residue p h x)) (row n (get_or l.monomials j no_monomial))) (w.terms h field)
-            ∙ append_assoc (terms_as p h n (terms_in n first)) _ _
-            ∙ ap (terms_as p h n (terms_in n first) ++◌) (sym (ap₂ (placed field) monomials (coefficients h)
-            ∙ ap₂ (λ y z. placed field (drop k (listed n l)) (drop k (vector p h c)) ++ nonzero_term field ((modulo p h).neg y) z)
-            (vector-entry p h c j ∙ ap (residue p h) (sym q)) (rows_at n l.count l.monomials j inside)));
-      }
-        where
-          inside : j < l.count
-          inside = omega (arith, w.within)
+        monomials : drop j (listed n l) ≡ listed_at n l j ∷ drop k (listed n l)
+        monomials = drop-cons (listed n l) j (one n) (omega (arith, inside, rows-length n l)) ∙ ap (λ i. listed_at n l j ∷ drop i (listed n l)) e
 
-          monomials : drop j (listed n l) ≡ listed_at n l j ∷ drop k (listed n l)
-          monomials = drop-cons (listed n l) j (one n) (omega (arith, inside, listed-length n l full)) ∙ ap (λ i. listed_at n l j ∷ drop i (listed n l)) e
+        coefficients : (h : 1 < p) → drop j (vector p h c) ≡ get_or (vector p h c) j (modulo p h).zero ∷ drop k (vector p h c)
+        coefficients h = drop-cons (vector p h c) j (modulo p h).zero (omega (arith, inside, fits, whole, length-vector p h c))
+            ∙ ap (λ i. get_or (vector p h c) j (modulo p h).zero ∷ drop i (vector p h c)) e
 
-          coefficients : (h : 1 < p) → drop j (vector p h c) ≡ get_or (vector p h c) j (modulo p h).zero ∷ drop k (vector p h c)
-          coefficients h = drop-cons (vector p h c) j (modulo p h).zero (omega (arith, inside, fits, whole, length-vector p h c))
-              ∙ ap (λ i. get_or (vector p h c) j (modulo p h).zero ∷ drop i (vector p h c)) e
-
-      pub writing-stop : {m : Monomial} {g : Generator} {k : ℕ} → FirstTerm p n m first → k ≤ 0 → Writing p n c l first g k → WrittenLine p n m c l g
-      writing-stop {m} {g} {k} f z w = record {
-        printable = w.printable;
-        line = λ h field once. generator-of p h n (terms_in n g) _ _ _ (w.terms h field ∙ ap₂ (λ ts j. ts ++ placed field (drop j (listed n l)) (drop j (vector p h c))) (f.terms h) last)
-            ∙ ap (λ f. (row n m, f)) (placed-ordered field (monomials n) (listed n l) (vector p h c) (omega (arith, listed-length n l full, fits, whole, length-vector p h c)) once);
-      }
-        where
-          last : k ≡ 0
-          last = omega arith
+    pub writing-stop : {m : Monomial} {g : Generator} {k : ℕ} → FirstTerm p n m first → k ≤ 0 → Writing p n c l first g k → WrittenLine p n m c l g
+    writing-stop {m} {g} {k} f z w = record {
+      printable = w.printable;
+      line = λ h field once. generator-of p h n (terms_in n g) _ _ _ (w.terms h field ∙ ap₂ (λ ts j. ts ++ placed field (drop j (listed n l)) (drop j (vector p h c))) (f.terms h) last)
+          ∙ ap (λ f. (row n m, f)) (placed-ordered field (monomials n) (listed n l) (vector p h c) (omega (arith, rows-length n l, fits, whole, length-vector p h c)) once);
+    }
+      where
+        last : k ≡ 0
+        last = omega arith

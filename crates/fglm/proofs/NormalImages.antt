@@ -31,13 +31,13 @@ use Rattle.groebner.proofs.Coordinates.{coordinates}
 use Rattle.groebner.proofs.ImageCoordinates.{image_vector}
 use Rattle.groebner.proofs.MultiplicationRows.{NormalRow, row_one, row_next}
 use Rattle.staircase.specs.Listed.{listed, listed_at}
-use Rattle.staircase.specs.declared.irreducible.Irreducibles.{Irreducibles}
 use Rattle.coordinates.specs.Vectors.{coordinate, indicator, coordinates_of, FullLength}
 use Rattle.coordinates.specs.declared.Coordinates.{Coordinates}
 use Rattle.coordinates.proofs.UnitRows.{indicator-same, indicator-other}
 use Rattle.coordinates.proofs.VectorEntries.{vector-entry}
 use Rattle.multiplication.specs.Rows.{cell_of, Tables}
 use Rattle.fglm.specs.ImageRows.{image_at, OneRow, ImageRule, ImageRow}
+use Rattle.fglm.specs.ImageRows.OneRow.{one_at, no_one}
 use Rattle.fglm.specs.ImageRows.ImageRule.{of_one, of_product}
 use Rattle.fglm.proofs.Images.{Image}
 
@@ -47,7 +47,7 @@ map_at f (x ∷ l) a b zero h = refl
 map_at f (x ∷ l) a b (suc k) h = map_at f l a b k (omega arith)
 
 module _ (p : ℕ) (h : 1 < p) (n : ℕ) {lt : Row n → Row n → Type 0} (𝓟 : PolynomialRing (modulo p h) (monomials n)) (ord : MonomialOrder (monomials n) lt)
-    (G : List (Line (ZMod p) (Row n))) (low : Low lt G) (l : Irreducibles) (size : length (listed n l) ≡ l.count) where
+    (G : List (Line (ZMod p) (Row n))) (low : Low lt G) (l : List Monomial) (size : length (listed n l) ≡ length l) where
   abbrev B : List (Row n)
   B = listed n l
 
@@ -55,12 +55,12 @@ module _ (p : ℕ) (h : 1 < p) (n : ℕ) {lt : Row n → Row n → Type 0} (𝓟
   abbrev pub NormalState : Row n → Coordinates → Type 0
   NormalState m w = NormalRow n 𝓟 ord G low B (one n) m (coordinates_of p h w)
 
-  pub normal-image : (m : Row n) (r : Coordinates) → FullLength r → NormalState m r → ((k : ℕ) → l.count ≤ k → coordinate r k ≡ 0)
+  pub normal-image : (m : Row n) (r : Coordinates) → FullLength r → NormalState m r → ((k : ℕ) → (length l) ≤ k → coordinate r k ≡ 0)
       → Image p h (image_vector 𝓟 ord G low B) r m
   unfolding coordinates coordinates_of
   normal-image m r whole e z = record {
     size = omega (arith, whole);
-    entries = λ k. vector-entry p h r k ∙ by_cases (dec_lt k l.count)
+    entries = λ k. vector-entry p h r k ∙ by_cases (dec_lt k (length l))
         (λ u. e k (omega (arith, size)) ∙ sym (map_at (image 𝓟 ord G low m) B (one n) (modulo p h).zero k (omega (arith, size))))
         (λ u. ap (residue p h) (z k (omega arith)) ∙ residue-zero p h
         ∙ sym (get_or-eq_default (map (image 𝓟 ord G low m) B) (modulo p h).zero (omega (arith, size, length-map B (image 𝓟 ord G low m)))));
@@ -70,20 +70,19 @@ module _ (p : ℕ) (h : 1 < p) (n : ℕ) {lt : Row n → Row n → Type 0} (𝓟
       (filled : (i : ℕ) → i < n → (s : ℕ) → s < length B → Filled (modulo p h) n G B (one n) (cell_of p h t) i s) (gb : Groebner (modulo p h) (monomials n) lt G) where
     one-normal : (r : Coordinates) → OneRow n l r → NormalState (one n) r
     unfolding coordinates_of
-    one-normal r o k u = ap (residue p h) (o.front k (omega (arith, size))) ∙ value ∙ row_one n 𝓟 ord G low B (one n) (cell_of p h t) clear lists filled gb k u
+    one-normal r (one_at i is e) k u = ap (residue p h) (e k) ∙ value ∙ row_one n 𝓟 ord G low B (one n) (cell_of p h t) clear lists filled gb k u
       where
-        value : residue p h (indicator k o.place) ≡ δ (modulo p h) (monomials n) (get_or B k (one n)) (one n)
-        value = by_cases (ℕ_discrete k o.place)
+        value : residue p h (indicator k i) ≡ δ (modulo p h) (monomials n) (get_or B k (one n)) (one n)
+        value = by_cases (ℕ_discrete k i)
             (λ q. ap (residue p h) (ap (λ j. indicator k j) (sym q) ∙ indicator-same k) ∙ residue-one p h
-            ∙ sym (ap (λ m. δ (modulo p h) (monomials n) m (one n)) (ap (λ j. get_or B j (one n)) q ∙ o.is.found (omega (arith, q, size, u))) ∙ δ-same (residue-ring p h) (monomials n) (one n)))
-            (λ q. ap (residue p h) (indicator-other k o.place q) ∙ residue-zero p h ∙ sym (δ-other (residue-ring p h) (monomials n) (get_or B k (one n)) (one n) (other q)))
-          where
-            other : ¬ (k ≡ o.place) → ¬ (get_or B k (one n) ≡ one n)
-            other q e = by_cases (dec_lt k o.place) (λ v. o.is.first k v e)
-                (λ v. q (at_once (one n) B lists.once k o.place u (omega (arith, u)) (e ∙ sym (o.is.found (omega (arith, u, size))))))
+            ∙ sym (ap (λ m. δ (modulo p h) (monomials n) m (one n)) (ap (λ j. get_or B j (one n)) q ∙ is.found) ∙ δ-same (residue-ring p h) (monomials n) (one n)))
+            (λ q. ap (residue p h) (indicator-other k i q) ∙ residue-zero p h ∙ sym (δ-other (residue-ring p h) (monomials n) (get_or B k (one n)) (one n)
+            (λ f. q (at_once (one n) B lists.once k i u is.within (f ∙ sym is.found)))))
+    one-normal r (no_one none e) k u = ap (residue p h) (e k) ∙ residue-zero p h
+        ∙ sym (δ-other (residue-ring p h) (monomials n) (get_or B k (one n)) (one n) (none k u)) ∙ row_one n 𝓟 ord G low B (one n) (cell_of p h t) clear lists filled gb k u
 
-    pub image-normal : {m : Monomial} {found : List ℕ} {standard : Irreducibles} {r : Coordinates}
-        → ((s : ℕ) → s < standard.count → NormalState (listed_at n standard s) (image_at found s)) → ImageRow p n m found standard t l r → NormalState (row n m) r
+    pub image-normal : {m : Monomial} {found : List ℕ} {standard : List Monomial} {r : Coordinates}
+        → ((s : ℕ) → s < length standard → NormalState (listed_at n standard s) (image_at found s)) → ImageRow p n m found standard t l r → NormalState (row n m) r
     image-normal {m} {found} {standard} {r} normal i = at i.rule
       where
         at : ImageRule p n m found standard t l r → NormalState (row n m) r

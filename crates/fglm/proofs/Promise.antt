@@ -28,8 +28,7 @@ use Rattle.groebner.proofs.Spans.{LinearSpan}
 use Rattle.lines.specs.Sizes.{most_standard}
 use Rattle.coordinates.specs.Vectors.{vector, FirstPlace}
 use Rattle.coordinates.specs.declared.Coordinates.{Coordinates}
-use Rattle.coordinates.specs.declared.vectors.Found.{Found}
-use Rattle.coordinates.specs.declared.vectors.Found.TheVariants.{Pivot, Dependent}
+use Rattle.std.specs.Prelude.{Option, Some, None}
 use Rattle.coordinates.proofs.VectorEntries.{length-vector}
 use Rattle.fglm.specs.RowState.{State, reduced_row, state_of, SoundRows}
 use Rattle.fglm.specs.Elimination.{nothing, LeftOf}
@@ -105,9 +104,9 @@ module _ (t : Reciprocals) (prime : Prime t.field.p) {M : Type 0} (L : M → ℕ
   enough-room rs e = omega (arith, few-rows p h field L rs _ (answers (inr rs) e).0, length-append B (m ∷ []), count)
 
   -- So nothing is left of v exactly if the image of m is a combination of the images of B.
-  pub dependent-exactly : {x : Residual} → LeftOf p s v x → (f : Found) → FirstPlace x.row f → (f ≡ Dependent) ↔ LinearSpan 𝓥 L (λ b. b ∈ B) (L m)
-  dependent-exactly left Dependent first = let w = answers (inl _) (answer-left t left prime Dependent first) in (λ e. (polynomial_of B _, w.0, w.1), λ i. refl)
-  dependent-exactly left (Pivot k) first = (λ e. absurd (distinct e), λ i. absurd ((answers (inr _) (answer-left t left prime (Pivot k) first)).1 i))
+  pub dependent-exactly : {x : Residual} → LeftOf p s v x → (f : Option ℕ) → FirstPlace x.row f → (f ≡ None) ↔ LinearSpan 𝓥 L (λ b. b ∈ B) (L m)
+  dependent-exactly left None first = let w = answers (inl _) (answer-left t left prime None first) in (λ e. (polynomial_of B _, w.0, w.1), λ i. refl)
+  dependent-exactly left (Some k) first = (λ e. absurd (distinct e), λ i. absurd ((answers (inr _) (answer-left t left prime (Some k) first)).1 i))
     where
-      distinct : Pivot k ≡ Dependent → ⊥
+      distinct : Some k ≡ None → ⊥
       distinct e = let z : ◌≡◌ {A = ℕ} 0 1 = cc in omega arith

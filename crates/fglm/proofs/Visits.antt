@@ -3,7 +3,7 @@
 --   Setting                                                   the lines to convert, and what is asked of them
 --   L 𝓢 m                                                     the image of m; NormalAt 𝓢 m w: the row w holds the coordinates of the normal form of m
 --   Progressed                                                the state stands for lines H and standard monomials of the theory
---   Stage H B found m                                         m is to be visited, all smaller monomials are seen; or all monomials are seen
+--   Stage H B r                                               r is to be visited, all smaller monomials are seen; or all monomials are seen
 --   progressed-none                                           at first nothing is found, and 1 is to be visited
 --   to-visit-found, visit-exponents, visit-few, visit-lines   what the code needs of the monomial to visit
 --   visit-image                                               its row is its image
@@ -11,8 +11,7 @@
 --   visit-standard                                            it is a standard monomial
 --   visit-onward                                              the next monomial is to be visited, or all are seen
 --   visits-end                                                what is found at the end
-use mathlib.Core.Path.{◌≡◌, sym, ◌∙◌, ap, ap₂, subst}
-use mathlib.Core.Bool.{Bool, true, false}
+use mathlib.Core.Path.{◌≡◌, refl, sym, ◌∙◌, ap, ap₂, subst}
 use mathlib.Core.List.Memᴰ
 use mathlib.Core.List.{List, [], ◌∷◌, ◌++◌, map, map-append}
 use mathlib.Core.Logic.{inl, inr, by_cases}
@@ -21,6 +20,8 @@ use Prim.Native.Nat.{ℕ, suc, ◌+◌, ◌*◌, ◌≤◌, ◌<◌}
 use native.Mathlib.Decide.{dec_lt}
 use native.Mathlib.Omega.{arith}
 use lib.ListN.{length, take, set, length-append}
+use Rattle.std.specs.Prelude as answer
+use Rattle.std.specs.Prelude.{Some, None}
 use lib.Seq.{take-suc-set}
 use Rattle.residue.specs.Prime.{Prime}
 use Rattle.residue.specs.Field.{ZMod, modulo}
@@ -64,8 +65,6 @@ use Rattle.lines.specs.declared.line.Generator.{Generator}
 use Rattle.staircase.specs.TermLines.{line_of, lines_of}
 use Rattle.staircase.specs.Leads.{rows_of, lead_monomials, multiple, NextIs}
 use Rattle.staircase.specs.Listed.{listed, listed_at}
-use Rattle.staircase.specs.declared.irreducible.Irreducibles.{Irreducibles}
-use Rattle.staircase.specs.declared.leads.Leads.{Leads}
 use Rattle.coordinates.specs.Vectors.{FullLength}
 use Rattle.coordinates.specs.Vectors as vectors
 use Rattle.coordinates.specs.declared.Coordinates.{Coordinates}
@@ -73,24 +72,24 @@ use Rattle.multiplication.specs.Rows.{Tables}
 use Rattle.fglm.specs.RowState.{state_of}
 use Rattle.fglm.specs.ImageRows.{image_at, DivisorsFound, ImageRow}
 use Rattle.fglm.specs.WrittenLines.{WrittenLine}
-use Rattle.fglm.specs.Enumerable.{Enumerable, Pushed}
+use Rattle.fglm.specs.Enumerable.{Enumerable}
 use Rattle.fglm.specs.declared.elimination.Rows.{Rows}
 use Rattle.fglm.proofs.Images.{Image, EchelonOf, Answers}
 use Rattle.fglm.proofs.Adding.{answer}
 use Rattle.fglm.proofs.NormalImages.{NormalState, image-normal, normal-image}
-use Rattle.fglm.proofs.PushedMonomials.{pushed-listed, pushed-before, pushed-last}
+use Rattle.fglm.proofs.PushedMonomials.{pushed-count, pushed-listed, pushed-before, pushed-last}
 use Rattle.fglm.proofs.Promise.{state-none, no-rows-yet, answers}
 use Rattle.fglm.proofs.WrittenMore.{written-append, written-more, multiple-reducible}
 
 -- Where the visits take place.
-pub record Setting (t : Reciprocals) (n : ℕ) (s : List ℕ) (l : Irreducibles) (tables : Tables) : Type 0 where
+pub record Setting (t : Reciprocals) (n : ℕ) (s : List ℕ) (l : List Monomial) (tables : Tables) : Type 0 where
   pub prime : Prime t.field.p
   pub ranking : RanksOnce n s
   pub lines : List (Line (ZMod t.field.p) (Row n))
   pub enumerable : Enumerable t.field.p prime n l tables lines
-  pub size : length (listed n l) ≡ l.count
+  pub size : length (listed n l) ≡ length l
 
-module _ {t : Reciprocals} {n : ℕ} {s : List ℕ} {l : Irreducibles} {tables : Tables} (𝓢 : Setting t n s l tables) where
+module _ {t : Reciprocals} {n : ℕ} {s : List ℕ} {l : List Monomial} {tables : Tables} (𝓢 : Setting t n s l tables) where
   open 𝓢 use {prime, ranking, size, lines as G, enumerable as en}
 
   abbrev p : ℕ
@@ -129,25 +128,25 @@ module _ {t : Reciprocals} {n : ℕ} {s : List ℕ} {l : Irreducibles} {tables :
   NormalAt m w = NormalState p h n (ground p prime n) (grevlex-order n) G en.low l size m w
 
   -- What is to be done: m is to be visited, or all monomials are seen.
-  abbrev pub Stage : List (Line F (Row n)) → List (Row n) → Bool → Row n → Type 0
-  Stage H B true m = SeenBelow n 𝓥 L lt m H B × ¬ Reducible (monomials n) H m
-  Stage H B false m = AllSeen n 𝓥 L lt H B
+  abbrev pub Stage : List (Line F (Row n)) → List (Row n) → answer.Option (Row n) → Type 0
+  Stage H B (Some m) = SeenBelow n 𝓥 L lt m H B × ¬ Reducible (monomials n) H m
+  Stage H B None = AllSeen n 𝓥 L lt H B
 
   -- The state stands for lines H and the standard monomials.
-  pub record Progressed (rs : Rows) (images : List ℕ) (standard : Irreducibles) (ls : Leads) (gs : List Generator) (H : List (Line F (Row n))) : Type 0 where
+  pub record Progressed (rs : Rows) (images : List ℕ) (standard ls : List Monomial) (gs : List Generator) (H : List (Line F (Row n))) : Type 0 where
     pub echelon : EchelonOf p h field L (state_of p h rs) (listed n standard)
     pub used : rs.used ≡ length (listed n standard)
-    pub count : length (listed n standard) ≡ standard.count
-    pub normal : (k : ℕ) → k < standard.count → NormalAt (listed_at n standard k) (image_at images k)
+    pub count : length (listed n standard) ≡ length standard
+    pub normal : (k : ℕ) → k < length standard → NormalAt (listed_at n standard k) (image_at images k)
     pub leads : lead_monomials n ls ≡ leads H
-    pub lead_count : length H ≡ ls.count
-    pub lines : lines_of p h n (map (terms_in n) (take ls.count gs)) ≡ in_order field (monomials n) (listed n standard) H
+    pub lead_count : length H ≡ length ls
+    pub lines : lines_of p h n (map (terms_in n) (take (length ls) gs)) ≡ in_order field (monomials n) (listed n standard) H
 
-  module _ {rs : Rows} {images : List ℕ} {standard : Irreducibles} {ls : Leads} {gs : List Generator} {H : List (Line F (Row n))} (q : Progressed rs images standard ls gs H) where
+  module _ {rs : Rows} {images : List ℕ} {standard ls : List Monomial} {gs : List Generator} {H : List (Line F (Row n))} (q : Progressed rs images standard ls gs H) where
     abbrev B : List (Row n)
     B = listed n standard
 
-    module _ {m : Row n} (v : Stage H B true m) where
+    module _ {m : Row n} (v : Stage H B (Some m)) where
       divisors : Divisors n m B
       divisors = visited-divisors n 𝓥 L ord m H B v.0 v.1
 
@@ -155,14 +154,14 @@ module _ {t : Reciprocals} {n : ℕ} {s : List ℕ} {l : Irreducibles} {tables :
       unfolding monomials
       to-visit-found i k b e = divisors b (variable n i, e) (λ f. irreflexive ord (subst (λ x. lt x (product n (variable n i) b)) (f ∙ e) (variable-above n ord i k b)))
 
-      pub visit-exponents : (i : ℕ) → i < n → exponent n m i ≤ standard.count
+      pub visit-exponents : (i : ℕ) → i < n → exponent n m i ≤ length standard
       visit-exponents i k = omega (arith, exponent-bounded n m B divisors i k, q.count)
 
-      pub visit-few : ls.count + standard.count ≤ n * standard.count
-      visit-few = subst (λ b. ls.count + b ≤ n * b) q.count (subst (λ g. g + length B ≤ n * length B) q.lead_count (visited-few n 𝓥 L ord shifts m H B v.0 v.1))
+      pub visit-few : length ls + length standard ≤ n * length standard
+      visit-few = subst (λ b. length ls + b ≤ n * b) q.count (subst (λ g. g + length B ≤ n * length B) q.lead_count (visited-few n 𝓥 L ord shifts m H B v.0 v.1))
 
-      pub visit-lines : 0 < n → standard.count ≤ most_standard → ls.count + most_standard ≤ n * most_standard
-      visit-lines k u = omega (arith, bound-monotone n 0 ls.count standard.count most_standard (omega (arith, visit-few)) u k)
+      pub visit-lines : 0 < n → length standard ≤ most_standard → length ls + most_standard ≤ n * most_standard
+      visit-lines k u = omega (arith, bound-monotone n 0 (length ls) (length standard) most_standard (omega (arith, visit-few)) u k)
 
     pub visit-image : {m : Monomial} {w : Coordinates} → FullLength w → ImageRow p n m images standard tables l w → NormalAt (row n m) w × Image p h L w (row n m)
     unfolding L NormalAt ground
@@ -171,10 +170,10 @@ module _ {t : Reciprocals} {n : ℕ} {s : List ℕ} {l : Irreducibles} {tables :
         (λ i k s u. en.filled i k s (omega (arith, size))) en.groebner q.normal i in
         (e, normal-image p h n (ground p prime n) (grevlex-order n) G en.low l size (row n m) w whole e i.zeros)
 
-    module _ (m : Monomial) (v : Stage H B true (row n m)) (w : Coordinates) (image : Image p h L w (row n m)) where
+    module _ (m : Monomial) (v : Stage H B (Some (row n m))) (w : Coordinates) (image : Image p h L w (row n m)) where
       pub visit-line : (c : Coordinates) → answer t prime rs w ≡ inl (vectors.vector p h c) → (g : Generator) → WrittenLine p n m c standard g
-          → (gs' : List Generator) → gs' ≡ set gs ls.count g → ls.count < length gs
-          → (ls' : Leads) → lead_monomials n ls' ≡ lead_monomials n ls ++ (row n m ∷ []) → ls'.count ≡ suc ls.count
+          → (gs' : List Generator) → gs' ≡ set gs (length ls) g → length ls < length gs
+          → (ls' : List Monomial) → lead_monomials n ls' ≡ lead_monomials n ls ++ (row n m ∷ []) → length ls' ≡ suc (length ls)
           → (H' : List (Line F (Row n))) × Progressed rs images standard ls' gs' H' × Seen n 𝓥 L lt (UpTo lt (row n m)) H' B
       unfolding lines_of
       visit-line c answered g in_order gs' stored room ls' more count = (
@@ -187,9 +186,9 @@ module _ {t : Reciprocals} {n : ℕ} {s : List ℕ} {l : Irreducibles} {tables :
           leads = more ∙ ap (◌++ (row n m ∷ [])) q.leads ∙ sym (leads-append H new);
           lead_count = omega (arith, length-append H (new ∷ []), q.lead_count, count);
           lines = ap₂ (λ k l. map (line_of p h n) (map (terms_in n) (take k l))) count stored
-              ∙ ap (λ l. map (line_of p h n) (map (terms_in n) l)) (take-suc-set gs ls.count g room)
-              ∙ ap (map (line_of p h n)) (map-append (terms_in n) (take ls.count gs) (g ∷ []))
-              ∙ map-append (line_of p h n) (map (terms_in n) (take ls.count gs)) (terms_in n g ∷ [])
+              ∙ ap (λ l. map (line_of p h n) (map (terms_in n) l)) (take-suc-set gs (length ls) g room)
+              ∙ ap (map (line_of p h n)) (map-append (terms_in n) (take (length ls) gs) (g ∷ []))
+              ∙ map-append (line_of p h n) (map (terms_in n) (take (length ls) gs)) (terms_in n g ∷ [])
               ∙ ap₂ (λ G x. G ++ (x ∷ [])) q.lines (in_order.line h field (rising-once ord B v.0.rising_standard))
               ∙ sym (written-append field (monomials n) B H new);
         },
@@ -203,19 +202,18 @@ module _ {t : Reciprocals} {n : ℕ} {s : List ℕ} {l : Irreducibles} {tables :
           new = (row n m, negate (modulo p h) (polynomial_of B (vectors.vector p h c)))
 
       pub visit-standard : (rs' : Rows) → answer t prime rs w ≡ inr (state_of p h rs') → rs'.used ≡ rs.used + 1
-          → (standard' : Irreducibles) → Pushed standard m standard' → standard.count < length standard.monomials
-          → (images' : List ℕ) → ((k : ℕ) → k < standard.count → image_at images' k ≡ image_at images k) → image_at images' standard.count ≡ w
+          → (images' : List ℕ) → ((k : ℕ) → k < length standard → image_at images' k ≡ image_at images k) → image_at images' (length standard) ≡ w
           → NormalAt (row n m) w
-          → Progressed rs' images' standard' ls gs H × Seen n 𝓥 L lt (UpTo lt (row n m)) H (listed n standard')
-      visit-standard rs' answered used standard' pushed room images' before own normal = (
+          → Progressed rs' images' (standard ++ (m ∷ [])) ls gs H × Seen n 𝓥 L lt (UpTo lt (row n m)) H (listed n (standard ++ (m ∷ [])))
+      visit-standard rs' answered used images' before own normal = (
         record {
           echelon = subst (EchelonOf p h field L (state_of p h rs')) (sym more) told.0;
           used = used ∙ omega (arith, q.used, ap length more, length-append B (row n m ∷ []));
-          count = ap length more ∙ omega (arith, q.count, pushed.count, length-append B (row n m ∷ []));
-          normal = λ j u. by_cases (dec_lt j standard.count)
-              (λ i. subst (λ x. NormalAt x (image_at images' j)) (sym (pushed-before pushed room n j i)) (subst (NormalAt (listed_at n standard j)) (sym (before j i)) (q.normal j i)))
-              (λ i. let e : j ≡ standard.count = omega (arith, u, pushed.count) in
-              subst (λ x. NormalAt x (image_at images' j)) (sym (pushed-last pushed room n j e)) (subst (NormalAt (row n m)) (sym (ap (image_at images') e ∙ own)) normal));
+          count = ap length more ∙ omega (arith, q.count, pushed-count standard m, length-append B (row n m ∷ []));
+          normal = λ j u. by_cases (dec_lt j (length standard))
+              (λ i. subst (λ x. NormalAt x (image_at images' j)) (sym (pushed-before standard m n j i)) (subst (NormalAt (listed_at n standard j)) (sym (before j i)) (q.normal j i)))
+              (λ i. let e : j ≡ length standard = omega (arith, u, pushed-count standard m) in
+              subst (λ x. NormalAt x (image_at images' j)) (sym (pushed-last standard m n j e)) (subst (NormalAt (row n m)) (sym (ap (image_at images') e ∙ own)) normal));
           leads = q.leads;
           lead_count = q.lead_count;
           lines = q.lines ∙ sym (ap (λ C. in_order field (monomials n) C H) more
@@ -227,45 +225,40 @@ module _ {t : Reciprocals} {n : ℕ} {s : List ℕ} {l : Irreducibles} {tables :
           told : Answers p h field L B (row n m) (inr (state_of p h rs'))
           told = answers t prime L rs B q.echelon q.used (row n m) w image _ answered
 
-          more : listed n standard' ≡ B ++ (row n m ∷ [])
-          more = pushed-listed pushed room n
+          more : listed n (standard ++ (m ∷ [])) ≡ B ++ (row n m ∷ [])
+          more = pushed-listed standard m n
 
     successor : (m : Row n) (x : Option (Row n)) → next n s (multiple n (lead_monomials n ls)) m ≡ x → Successor lt (reducible n H) m x
     successor m x e = subst (Successor lt (reducible n H) m) (ap (λ t. next n s t m) (sym (ap (multiple n) q.leads ∙ multiple-reducible n H)) ∙ e)
         (next-lex n s ranking (reducible n H) (reducible-closed n H) m)
 
-    pub visit-onward : {m : Row n} → Seen n 𝓥 L lt (UpTo lt m) H B → (found : Bool) (r : Row n)
-        → NextIs n s (multiple n (lead_monomials n ls)) m found r → Stage H B found r
-    visit-onward {m} v true r e = let c = successor m (some r) e in (seen-onward n 𝓥 L ord m H B v (some r) c, (irreducible-iff n H r).0 c.1)
-    visit-onward {m} v false r e = seen-onward n 𝓥 L ord m H B v none (successor m none e)
+    pub visit-onward : {m : Row n} → Seen n 𝓥 L lt (UpTo lt m) H B → (r : answer.Option (Row n))
+        → NextIs n s (multiple n (lead_monomials n ls)) m r → Stage H B r
+    visit-onward {m} v (Some r) e = let c = successor m (some r) e in (seen-onward n 𝓥 L ord m H B v (some r) c, (irreducible-iff n H r).0 c.1)
+    visit-onward {m} v None e = seen-onward n 𝓥 L ord m H B v none (successor m none e)
 
-    pub visits-end : AllSeen n 𝓥 L lt H B → Enumerates (modulo p h) n (Grevlex n) lt G l.count (lines_of p h n (map (terms_in n) (take ls.count gs))) B
+    pub visits-end : AllSeen n 𝓥 L lt H B → Enumerates (modulo p h) n (Grevlex n) lt G (length l) (lines_of p h n (map (terms_in n) (take (length ls) gs))) B
     unfolding L ground
-    visits-end v = subst (λ d. Enumerates (modulo p h) n (Grevlex n) lt G d (lines_of p h n (map (terms_in n) (take ls.count gs))) B) size
+    visits-end v = subst (λ d. Enumerates (modulo p h) n (Grevlex n) lt G d (lines_of p h n (map (terms_in n) (take (length ls) gs))) B) size
         (subst (λ K. Enumerates (modulo p h) n (Grevlex n) lt G (length (listed n l)) K B) (sym q.lines)
         (seen-outcome n (ground p prime n) (grevlex-order n) ord (next n s) (next-lex n s ranking) G en.low en.groebner (listed n l) en.lists H B v))
 
   -- At first nothing is found.
-  pub progressed-none : (rs : Rows) (images : List ℕ) (standard : Irreducibles) (ls : Leads) (gs : List Generator) → rs.used ≡ 0
-      → standard.count ≡ 0 → ls.count ≡ 0
-      → Progressed rs images standard ls gs [] × Stage [] (listed n standard) true (one n)
+  pub progressed-none : (rs : Rows) (images : List ℕ) (gs : List Generator) → rs.used ≡ 0 → Progressed rs images [] [] gs [] × Stage [] (listed n []) (Some (one n))
   unfolding rows_of lines_of in_order monomials
-  progressed-none rs images standard ls gs e f g = (
+  progressed-none rs images gs e = (
     record {
-      echelon = subst (λ B. EchelonOf p h field L (state_of p h rs) B) (sym empty) (subst (λ r. EchelonOf p h field L r []) (sym (state-none p h rs e)) (no-rows-yet p h field L));
-      used = e ∙ sym (ap length empty);
-      count = ap length empty ∙ sym f;
+      echelon = subst (λ r. EchelonOf p h field L r []) (sym (state-none p h rs e)) (no-rows-yet p h field L);
+      used = e;
+      count = refl;
       normal = λ k u. absurd (omega arith);
-      leads = ap (λ k. map (row n) (take k ls.monomials)) g;
-      lead_count = sym g;
-      lines = ap (λ k. map (line_of p h n) (map (terms_in n) (take k gs))) g;
+      leads = refl;
+      lead_count = refl;
+      lines = refl;
     },
-    (subst (λ B. SeenBelow n 𝓥 L lt (one n) [] B) (sym empty) nothing_seen, λ r. absurd (Memᴰ.not-nil r.1)),
+    (nothing_seen, λ r. absurd (Memᴰ.not-nil r.1)),
   )
     where
-      empty : listed n standard ≡ []
-      empty = ap (λ k. map (row n) (take k standard.monomials)) f
-
       nothing_seen : SeenBelow n 𝓥 L lt (one n) [] []
       nothing_seen = record {
         cover = λ k u. absurd (one-least (rows-laws n) ord k u);

@@ -2,8 +2,7 @@
 --   Enumerable p prime n l t G        the lines G are a Groebner basis in grevlex with the irreducible monomials l, and t has the rows of their products with variables
 --   EnumerationInput t n s l tables   what the enumeration asks: such lines over the field of t, and a ranking s of n variables
 --   Enumerated t n s l tables r       what it gives: the lex basis over s, and its standard monomials
---   Pushed l m r                      r is the list l with one monomial more
-use Rattle.std.specs.Prelude.{ℕ, suc, ◌≤◌, ◌<◌, ◌≡◌, List, set}
+use Rattle.std.specs.Prelude.{ℕ, ◌≤◌, ◌<◌, List, length}
 use Rattle.residue.specs.Prime.{Prime}
 use Rattle.residue.specs.Field.{ZMod, modulo}
 use Rattle.residue.specs.declared.reciprocals.Reciprocals.{Reciprocals}
@@ -20,34 +19,28 @@ use Rattle.groebner.specs.Next.{RanksOnce}
 use Rattle.groebner.specs.Enumeration.{Enumerates}
 use Rattle.lines.specs.Sizes.{most_standard}
 use Rattle.staircase.specs.Listed.{listed}
-use Rattle.staircase.specs.declared.irreducible.Irreducibles.{Irreducibles}
 use Rattle.multiplication.specs.Rows.{cell_of, AllBelow, Tables}
 use Rattle.fglm.specs.Found.{found_lines, found_standard, Printable}
 use Rattle.fglm.specs.Lex.{LexBasis}
 
 -- The lines G are a Groebner basis in grevlex, no term of one a multiple of another's leading monomial; l lists its irreducible monomials.
-pub record Enumerable (p : ℕ) (prime : Prime p) (n : ℕ) (l : Irreducibles) (t : Tables) (G : List (Line (ZMod p) (Row n))) : Type 0 where
+pub record Enumerable (p : ℕ) (prime : Prime p) (n : ℕ) (l : List Monomial) (t : Tables) (G : List (Line (ZMod p) (Row n))) : Type 0 where
   pub low : Low (Grevlex n) G
   pub clear : Clear (modulo p prime.above_one) (monomials n) G
   pub groebner : Groebner (modulo p prime.above_one) (monomials n) (Grevlex n) G
   pub lists : Lists (λ m. ¬ Reducible (monomials n) G m) (listed n l)
-  pub filled : (i : ℕ) → i < n → (s : ℕ) → s < l.count → Filled (modulo p prime.above_one) n G (listed n l) (one n) (cell_of p prime.above_one t) i s
+  pub filled : (i : ℕ) → i < n → (s : ℕ) → s < length l → Filled (modulo p prime.above_one) n G (listed n l) (one n) (cell_of p prime.above_one t) i s
 
 -- What the enumeration asks.
-pub record EnumerationInput (t : Reciprocals) (n : ℕ) (s : List ℕ) (l : Irreducibles) (tables : Tables) : Type 0 where
+pub record EnumerationInput (t : Reciprocals) (n : ℕ) (s : List ℕ) (l : List Monomial) (tables : Tables) : Type 0 where
   pub variables : VariableCount n
   pub ranking : RanksOnce n s
-  pub few : l.count ≤ most_standard
+  pub few : length l ≤ most_standard
   pub below : AllBelow t.field.p tables
   pub lines : (prime : Prime t.field.p) → (G : List (Line (ZMod t.field.p) (Row n))) × Enumerable t.field.p prime n l tables G
 
 -- What the enumeration gives, whatever such lines there are: the outcome of the theory, in the arrays of r.
-pub record Enumerated (t : Reciprocals) (n : ℕ) (s : List ℕ) (l : Irreducibles) (tables : Tables) (r : LexBasis) : Type 0 where
+pub record Enumerated (t : Reciprocals) (n : ℕ) (s : List ℕ) (l : List Monomial) (tables : Tables) (r : LexBasis) : Type 0 where
   pub printable : Printable t.field.p n r
   pub outcome : (prime : Prime t.field.p) (G : List (Line (ZMod t.field.p) (Row n))) → Enumerable t.field.p prime n l tables G
-      → Enumerates (modulo t.field.p prime.above_one) n (Grevlex n) (Lex n s) G l.count (found_lines t.field.p prime.above_one n r) (found_standard n r)
-
--- r is the list l with one monomial more.
-pub record Pushed (l : Irreducibles) (m : Monomial) (r : Irreducibles) : Type 0 where
-  pub count : r.count ≡ suc l.count
-  pub monomials : r.monomials ≡ set l.monomials l.count m
+      → Enumerates (modulo t.field.p prime.above_one) n (Grevlex n) (Lex n s) G (length l) (found_lines t.field.p prime.above_one n r) (found_standard n r)

@@ -3,7 +3,7 @@
 --   found_standard n b    its standard monomials
 --   PrintableLine p n g   the line g is within its arrays, and monic modulo p
 --   Printable p n b       its lines are so, and its arrays have what it says
-use Rattle.std.specs.Prelude.{ℕ, ◌≤◌, ◌<◌, List, map, take}
+use Rattle.std.specs.Prelude.{ℕ, ◌≤◌, ◌<◌, List, length, map, take}
 use Rattle.lists.specs.Lists.{Each}
 use Rattle.residue.specs.Field.{ZMod}
 use Rattle.residue.specs.declared.Residue.{Residue}
@@ -25,7 +25,7 @@ found_lines p h n b = lines_of p h n (map (terms_in n) (take b.lines b.generator
 -- Its standard monomials.
 unfoldable pub found_standard : (n : ℕ) → LexBasis → List (Row n)
 unfolding row
-found_standard n b = map (row n) (take b.count b.standard)
+found_standard n b = map (row n) b.standard
 
 -- A line within its arrays: the coefficients are 1 to p - 1, the first of them 1, and the exponents from place n on are 0.
 pub record PrintableLine (p n : ℕ) (g : Generator) : Type 0 where
@@ -37,5 +37,5 @@ pub record PrintableLine (p n : ℕ) (g : Generator) : Type 0 where
 pub record Printable (p n : ℕ) (b : LexBasis) : Type 0 where
   pub lines : b.lines ≤ most_lines
   pub each : Each (PrintableLine p n) (take b.lines b.generators)
-  pub count : b.count ≤ most_standard
-  pub standard : Each (Padded n) (take b.count b.standard)
+  pub count : length b.standard ≤ most_standard
+  pub standard : Each (Padded n) b.standard

@@ -6,7 +6,7 @@
 --   ImageInput            what the row of m asks of the rows, the ranks and the tables
 --   ImageRule             the row of m is that of 1, or comes from that of a standard monomial
 --   ImageRow              so it is, its entries are below p, and zero past those of the list l
-use Rattle.std.specs.Prelude.{◌≡◌, List, ℕ, ◌*◌, ◌≤◌, ◌<◌, length}
+use Rattle.std.specs.Prelude.{◌≡◌, List, ℕ, ◌*◌, ◌≤◌, ◌<◌, length, None}
 use Rattle.lists.specs.Lists.{◌∈◌}
 use Rattle.residue.specs.Field.{modulo}
 use Rattle.monomial.specs.Sizes.{most_variables}
@@ -17,8 +17,7 @@ use Rattle.monomial.specs.Ranks.{RanksOf}
 use Rattle.monomial.specs.declared.Monomial.{Monomial}
 use Rattle.groebner.specs.MultiplicationRows.{times_variable}
 use Rattle.lines.specs.Sizes.{most_standard}
-use Rattle.staircase.specs.Listed.{listed, listed_at, Place}
-use Rattle.staircase.specs.declared.irreducible.Irreducibles.{Irreducibles}
+use Rattle.staircase.specs.Listed.{listed, listed_at, PlaceAt, Place}
 use Rattle.coordinates.specs.Vectors.{coordinate, indicator, Below, coordinates_of}
 use Rattle.coordinates.specs.Rows.{row_in}
 use Rattle.coordinates.specs.declared.Coordinates.{Coordinates}
@@ -33,37 +32,35 @@ abbrev pub image_at : List ℕ → ℕ → Coordinates
 image_at l s = row_in l (s * most_standard)
 
 -- r is one at the place of 1 in the list, and zero elsewhere; zero where 1 is not in it.
-pub record OneRow (n : ℕ) (l : Irreducibles) (r : Coordinates) : Type 0 where
-  pub place : ℕ
-  pub is : Place n (listed n l) l.count (one n) place
-  pub front : (k : ℕ) → k < l.count → coordinate r k ≡ indicator k place
-  pub zeros : (k : ℕ) → l.count ≤ k → coordinate r k ≡ 0
+pub data OneRow (n : ℕ) (l : List Monomial) (r : Coordinates) : Type 0 where
+  one_at : (k : ℕ) → PlaceAt n (listed n l) (one n) k → ((j : ℕ) → coordinate r j ≡ indicator j k) → OneRow n l r
+  no_one : Place n (listed n l) (one n) None → ((j : ℕ) → coordinate r j ≡ 0) → OneRow n l r
 
 -- m over any of its variables is in the list.
-abbrev pub DivisorsFound : (n : ℕ) → Irreducibles → Row n → Type 0
+abbrev pub DivisorsFound : (n : ℕ) → List Monomial → Row n → Type 0
 DivisorsFound n l m = (i : ℕ) → i < n → (b : Row n) → m ≡ product n (variable n i) b → b ∈ listed n l
 
 -- What the row of m asks: arrays of their lengths with entries below p, the ranks of the standard monomials, and m over any of its variables among these.
-pub record ImageInput (p n : ℕ) (m : Monomial) (cells images ranks : List ℕ) (standard l : Irreducibles) : Type 0 where
+pub record ImageInput (p n : ℕ) (m : Monomial) (cells images ranks : List ℕ) (standard l : List Monomial) : Type 0 where
   pub variables : n ≤ most_variables
-  pub few : l.count ≤ most_standard
+  pub few : length l ≤ most_standard
   pub cells_size : length cells ≡ most_cells
   pub cells_below : AllBelow p (tables_of cells)
-  pub standard_few : standard.count ≤ most_standard
+  pub standard_few : length standard ≤ most_standard
   pub images_size : length images ≡ most_images
-  pub images_below : (s : ℕ) → s < standard.count → Below p (image_at images s)
-  pub ranked : RanksOf n (listed n standard) standard.count ranks
+  pub images_below : (s : ℕ) → s < length standard → Below p (image_at images s)
+  pub ranked : RanksOf n (listed n standard) (length standard) ranks
   pub divisors : DivisorsFound n standard (row n m)
 
-module _ (p n : ℕ) (m : Monomial) (found : List ℕ) (standard : Irreducibles) (t : Tables) (l : Irreducibles) (r : Coordinates) where
+module _ (p n : ℕ) (m : Monomial) (found : List ℕ) (standard : List Monomial) (t : Tables) (l : List Monomial) (r : Coordinates) where
   -- r is the row of 1, or that of x_i times a standard monomial by the rows of the tables.
   pub data ImageRule : Type 0 where
     of_one : row n m ≡ one n → OneRow n l r → ImageRule
-    of_product : (i s : ℕ) → i < n → s < standard.count → row n m ≡ product n (variable n i) (listed_at n standard s)
-        → ((h : 1 < p) (k : ℕ) → k < l.count → coordinates_of p h r k ≡ times_variable (modulo p h) l.count (cell_of p h t) i (coordinates_of p h (image_at found s)) k) → ImageRule
+    of_product : (i s : ℕ) → i < n → s < length standard → row n m ≡ product n (variable n i) (listed_at n standard s)
+        → ((h : 1 < p) (k : ℕ) → k < length l → coordinates_of p h r k ≡ times_variable (modulo p h) (length l) (cell_of p h t) i (coordinates_of p h (image_at found s)) k) → ImageRule
 
   -- Its entries are below p, and zero past those of the list l.
   pub record ImageRow : Type 0 where
     pub below : Below p r
-    pub zeros : (k : ℕ) → l.count ≤ k → coordinate r k ≡ 0
+    pub zeros : (k : ℕ) → length l ≤ k → coordinate r k ≡ 0
     pub rule : ImageRule

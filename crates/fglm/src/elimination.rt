@@ -7,7 +7,7 @@ ghost use Rattle.fglm.specs.Elimination.{LeftOf};
 ghost use Rattle.fglm.specs.Steps.{LessRow, Dependence, Scaled, ClearedRow, Inserted};
 
 use coordinates::Coordinates;
-use coordinates::vectors::{Found, first_nonzero, multiply, subtract_multiple, unit};
+use coordinates::vectors::{first_nonzero, multiply, subtract_multiple, unit};
 use lines::sizes::MAX_STANDARD;
 use residue::Residue;
 use residue::field::PrimeField;
@@ -37,7 +37,7 @@ pub struct Residual {
 
 impl Residual {
     // A pivot, if anything is left; else the vector depends on those added before.
-    pub fn found(self) -> Found
+    pub fn found(self) -> Option<usize>
         ensures { FirstPlace self.row result }
     {
         first_nonzero(self.row)

@@ -1,5 +1,5 @@
 // The row of a monomial, from the rows of the standard monomials found before.
-ghost use Rattle.std.specs.Prelude.{◌≤◌};
+ghost use Rattle.std.specs.Prelude.{◌≤◌, length};
 ghost use Rattle.monomial.specs.Sizes.{most_variables};
 ghost use Rattle.lines.specs.Sizes.{most_standard};
 ghost use Rattle.multiplication.specs.Rows.{tables_of};
@@ -13,22 +13,19 @@ use monomial::rank::{rank, rank_place};
 use monomial::variable::{first_variable, over_variable};
 use multiplication::rows::times_variable;
 use residue::field::PrimeField;
-use staircase::irreducible::Irreducibles;
 use staircase::place::place_of;
 
 // The coefficients of the rows of all standard monomials: coefficient k of the row of the one at place s at place s * MAX_STANDARD + k.
 pub const MAX_IMAGES: usize = MAX_STANDARD * MAX_STANDARD;
 
 // The row of 1: zero where 1 is not listed.
-fn one_row(irreducibles: Irreducibles, n: usize) -> Coordinates
-    requires { (n ≤ most_variables) × (irreducibles.count ≤ most_standard) }
-    ensures { OneRow n irreducibles result }
+fn one_row(irreducibles: &[Monomial], n: usize) -> Coordinates
+    requires { (n ≤ most_variables) × (length irreducibles.now ≤ most_standard) }
+    ensures { OneRow n irreducibles.now result }
 {
-    let k = place_of(irreducibles, Monomial::one(), n);
-    if k < irreducibles.count {
-        Coordinates::unit(k)
-    } else {
-        Coordinates::zero()
+    match place_of(irreducibles, Monomial::one(), n) {
+        Some(k) => Coordinates::unit(k),
+        None => Coordinates::zero(),
     }
 }
 
@@ -38,19 +35,19 @@ pub fn image_of(
     images: &[u16],
     ranks: &[u64],
     m: Monomial,
-    standard: Irreducibles,
-    irreducibles: Irreducibles,
+    standard: &[Monomial],
+    irreducibles: &[Monomial],
     field: PrimeField,
     n: usize,
 ) -> Coordinates
-    requires { ImageInput field.p n m cells.now images.now ranks.now standard irreducibles }
-    ensures { ImageRow field.p n m images.now standard (tables_of cells.now) irreducibles result }
+    requires { ImageInput field.p n m cells.now images.now ranks.now standard.now irreducibles.now }
+    ensures { ImageRow field.p n m images.now standard.now (tables_of cells.now) irreducibles.now result }
 {
     let Some(i) = first_variable(m, n) else {
         return one_row(irreducibles, n);
     };
     let b = over_variable(m, i, n);
-    let s = rank_place(&ranks[..standard.count], rank(b, n)).unwrap();
+    let s = rank_place(&ranks[..standard.len()], rank(b, n)).unwrap();
     let w = row_at(images, s * MAX_STANDARD);
-    times_variable(cells, i, w, irreducibles.count, field)
+    times_variable(cells, i, w, irreducibles.len(), field)
 }

@@ -1,11 +1,11 @@
 // The shape of the lex basis that the enumeration finds, and its standard monomials.
+use arrayvec::ArrayVec;
 use lines::sizes::MAX_STANDARD;
 use monomial::Monomial;
 
-// The number of lines, which stand in lent arrays as the crate store has them, and the first monomials of the array; both in rising order.
-#[derive(Clone, Copy)]
+// The number of lines, which stand in lent arrays as the crate lines has them, and the standard monomials; both in rising order.
+#[derive(Drop)]
 pub struct LexShape {
     pub lines: usize,
-    pub count: usize,
-    pub standard: [Monomial; MAX_STANDARD],
+    pub standard: ArrayVec<Monomial, MAX_STANDARD>,
 }

@@ -7,7 +7,6 @@ use coordinates::Coordinates;
 use lines::line::{Generator, empty, with_term};
 use monomial::Monomial;
 use residue::Residue;
-use staircase::irreducible::Irreducibles;
 
 // How many terms there are with one of the coefficient c after them: no more where c is 0.
 fn terms_with(c: Residue, terms: usize) -> usize
@@ -22,17 +21,17 @@ fn terms_with(c: Residue, terms: usize) -> usize
 pub fn line_of(
     m: Monomial,
     combination: Coordinates,
-    standard: Irreducibles,
+    standard: &[Monomial],
     p: u16,
     n: usize,
 ) -> Generator
-    requires { LineInput p n m combination standard }
-    ensures { WrittenLine p n m combination standard result }
+    requires { LineInput p n m combination standard.now }
+    ensures { WrittenLine p n m combination standard.now result }
 {
     let mut g = with_term(empty(), Residue::ONE, m);
-    for k in (0..standard.count).rev() {
+    for k in (0..standard.len()).rev() {
         let c = combination.c[k];
-        let b = standard.monomials[k];
+        let b = standard[k];
         let at = g.terms;
         g.coefficients[at] = c.neg(p);
         g.monomials[at] = b;

@@ -1,6 +1,6 @@
 -- `enumerate` meets its contract. The loop's invariant: the state stands for lines and standard monomials of the theory, and m is the next to visit.
 use Prim.Native.Nat.{◌+◌, ◌*◌, ◌-◌}
-use lib.ListN.{take}
+use lib.ListN.{length, take}
 use Rattle.lines.specs.Sizes.{most_standard}
 use Rattle.multiplication.specs.Rows.{tables_of}
 use Rattle.fglm.proofs.EnumerationLoop.{Enumerating}
@@ -8,8 +8,8 @@ use Rattle.fglm.proofs.enumeration.enumerate.Given as goal
 
 abbrev pub invariant-loop-m : goal.invariant-loop-m
 invariant-loop-m l =
-    Enumerating l.reciprocals l.n (take l.n l.ranking.variables) l.irreducibles (tables_of l.cells) l.counts l.coefficients l.exponents l.rows l.images l.ranks l.standard l.leads l.m.found l.m.monomial
+    Enumerating l.reciprocals l.n (take l.n l.ranking.variables) l.irreducibles (tables_of l.cells) l.counts l.coefficients l.exponents l.rows l.images l.ranks.items l.standard.items l.leads.items l.m
 
 abbrev pub decreases-loop-m : goal.decreases-loop-m
 decreases-loop-m l =
-    l.n * most_standard + 1 - (l.leads.count + l.standard.count)
+    l.n * most_standard + 1 - (length l.leads.items + length l.standard.items)

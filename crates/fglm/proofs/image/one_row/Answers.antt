@@ -1,24 +1,30 @@
 -- `one_row` meets its contract.
 use mathlib.Core.Path.{◌∙◌, ap, subst}
+use native.Mathlib.Omega.{arith}
 use Rattle.monomial.specs.Rows.{one}
 use Rattle.monomial.specs.Represented.{row}
 use Rattle.monomial.proofs.Places.{row-monomial}
 use Rattle.staircase.specs.Listed.{listed, Place}
+use Rattle.staircase.proofs.ArrayRows.{rows-length}
 use Rattle.staircase.proofs.PaddedRows.{one-held}
-use Rattle.fglm.proofs.RowImages.{one-listed, one-unlisted}
-use Rattle.fglm.proofs.image.one_row.Goals.{After-place_of-k}
+use Rattle.fglm.specs.ImageRows.OneRow.{one_at, no_one}
+use Rattle.fglm.proofs.image.one_row.Goals.{After-place_of}
 use Rattle.fglm.proofs.image.one_row.Goals as goal
 
 -- The place of 1.
-place : (c : After-place_of-k) → let a = c.args in Place a.n (listed a.n a.irreducibles) a.irreducibles.count (one a.n) c.place_of-k.result
+place : (c : After-place_of) → let a = c.args in Place a.n (listed a.n a.irreducibles.now) (one a.n) c.place_of.result
 place c =
     let a = c.args in
-    let (variables, _) = c.requires in
-    subst (λ m. Place a.n (listed a.n a.irreducibles) a.irreducibles.count m c.place_of-k.result)
-    (ap (row a.n) (c.one.ensures ∙ one-held a.n variables) ∙ row-monomial a.n (one a.n)) c.place_of-k.ensures
+    subst (λ m. Place a.n (listed a.n a.irreducibles.now) m c.place_of.result)
+    (ap (row a.n) (c.one.ensures ∙ one-held a.n c.requires.0) ∙ row-monomial a.n (one a.n)) c.place_of.ensures
 
-pub returns-then-k-irreducibles : goal.returns-then-k-irreducibles
-returns-then-k-irreducibles c = one-listed (place (goal.at.returns-then-k-irreducibles c).After-place_of-k) c.if-k-irreducibles.true c.unit.ensures
+pub unit-requires : goal.unit-requires
+unit-requires c =
+    let p = rw c.in-Some.is at (place (goal.at.unit-requires c).After-place_of) in
+    omega (arith, p.within, rows-length c.args.n c.args.irreducibles.now, c.requires.1)
 
-pub returns-else-k-irreducibles : goal.returns-else-k-irreducibles
-returns-else-k-irreducibles c = one-unlisted (place (goal.at.returns-else-k-irreducibles c).After-place_of-k) c.if-k-irreducibles.false c.zero.ensures
+pub returns-in-Some : goal.returns-in-Some
+returns-in-Some c = one_at _ (rw c.in-Some.is at (place (goal.at.returns-in-Some c).After-place_of)) c.unit.ensures
+
+pub returns-in-None : goal.returns-in-None
+returns-in-None c = no_one (rw c.in-None.is at (place (goal.at.returns-in-None c).After-place_of)) c.zero.ensures

@@ -11,11 +11,6 @@ use Rattle.fglm.proofs.LineTerms.{arrays-stored, less-stored, FirstTerm, first-t
 use Rattle.fglm.proofs.line.line_of.Goals.{After-neg, After-with_term-g, In-loop-k, Start}
 use Rattle.fglm.proofs.line.line_of.Goals as goal
 
-full : (c : Start) → c.args.standard.count ≤ length c.args.standard.monomials
-full c =
-    let e : length c.args.standard.monomials ≡ most_standard = search (length-mapped, rules) in
-    omega (arith, c.requires.few)
-
 whole : (c : Start) → FullLength c.args.combination
 whole c = search (length-mapped, rules)
 
@@ -24,7 +19,7 @@ first : (c : After-with_term-g) → let a = c.args in FirstTerm a.p a.n a.m c.wi
 first c = first-term c.requires.above_one c.requires.padded c.empty.ensures refl c.with_term-g.ensures
 
 pub loop-k-init : goal.loop-k-init
-loop-k-init c = writing_start (full (goal.at.loop-k-init c).Start) (first c) (record { coefficients = search (length-mapped, rules); monomials = search (length-mapped, rules) })
+loop-k-init c = writing_start (first c) (record { coefficients = search (length-mapped, rules); monomials = search (length-mapped, rules) })
 
 -- There is a place for one term more.
 room : (c : After-neg) → c.loop-k.g.terms < most_terms
@@ -33,9 +28,9 @@ room c = omega (arith, c.loop-k-test.true, c.requires.few, c.loop-k.invariant.ro
 pub loop-k-preserved : goal.loop-k-preserved
 loop-k-preserved c =
     let i = c.loop-k.invariant in
-    writing-turn (full (goal.at.loop-k-preserved c).Start) c.requires.few (whole (goal.at.loop-k-preserved c).Start) c.requires.all_padded (omega (arith, c.loop-k-test.true)) i refl
+    writing-turn c.requires.few (whole (goal.at.loop-k-preserved c).Start) c.requires.all_padded (omega (arith, c.loop-k-test.true)) i refl
     (less-stored (c.requires.below.below _) (room (goal.at.loop-k-preserved c).After-neg) i.arrays c.neg.ensures.0 c.terms_with.ensures.0 c.terms_with.ensures.1)
     (arrays-stored _ _ i.arrays)
 
 pub returns : goal.returns
-returns c = writing-stop (full (goal.at.returns c).Start) c.requires.few (whole (goal.at.returns c).Start) (first (goal.at.returns c).After-with_term-g) (omega arith) c.loop-k.invariant
+returns c = writing-stop c.requires.few (whole (goal.at.returns c).Start) (first (goal.at.returns c).After-with_term-g) (omega arith) c.loop-k.invariant
