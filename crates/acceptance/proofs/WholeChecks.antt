@@ -1,9 +1,7 @@
 -- The outcome of checks 12 to 15 on a basis of the code, from the answers of the parts that do them.
 --   Refuses b e                  the outcome of checks 12 to 15 is the refusal e
 --   says-refused                 the answer to a refused basis is its outcome
---   whole-divided                12: an answer of `first_divided` that is not 0
---   NotDivided b                 12 speaks of no line
---   undivided                    the answer 0 says so
+--   whole-divided                12: `first_divided` found a line
 --   zero-dimensional-leads       13: the answer of `zero_dimensional` is that on the lines
 --   whole-not-zero-dimensional   the answer no
 --   leads-pass                   the answer yes
@@ -13,7 +11,6 @@
 --   failing                      15: the answer no of `is_groebner`: the basis is as `first_failing` asks, and check 15 speaks of a line
 --   whole-failing                the answer of `first_failing`
 --   whole-passes                 the answer yes: the basis passes
-use Rattle.std.specs.Prelude.{Ok, Err}
 use mathlib.Core.Path.{◌≡◌, refl, sym, ◌∙◌, ap, subst}
 use mathlib.Core.Bool.{Bool, true, false, false≢true}
 use mathlib.Core.List.{List}
@@ -23,7 +20,8 @@ use mathlib.Core.Option.{none}
 use Prim.Native.Nat.{ℕ, ◌≤◌, ◌<◌}
 use native.Mathlib.Omega.{arith}
 use lib.ListN.{length}
-use Rattle.std.specs.Prelude.{Some, None}
+use Rattle.std.specs.Prelude.{Option, Some, None, Ok, Err}
+use Rattle.arrayvec.specs.ArrayVec.{ArrayVec}
 use Rattle.lists.proofs.EachElement.{each_of, each_at}
 use Rattle.residue.specs.Prime.{Prime}
 use Rattle.residue.specs.Field.{modulo}
@@ -53,12 +51,9 @@ use Rattle.staircase.specs.Leads.{rows_of, LeadsOf, multiple, Powers, CountIs}
 use Rattle.staircase.specs.Places.{FirstDivided}
 use Rattle.staircase.specs.Sound.{Sound}
 use Rattle.staircase.specs.Conditions.{Divided, Large, Failing}
-use Rattle.staircase.specs.LeastNumber.{Smallest}
 use Rattle.staircase.specs.Listed.{listed, ListsIrreducibles}
-use Rattle.staircase.specs.declared.irreducible.Irreducibles.{Irreducibles}
 use Rattle.staircase.proofs.ArrayRows.{rows-length}
 use Rattle.staircase.proofs.LineElements.{WithinArrays}
-use Rattle.staircase.proofs.SmallestLine.{smallest-passes}
 use Rattle.staircase.proofs.ClearLines.{divided-clear}
 use Rattle.staircase.proofs.PowersOfVariables.{power-of-leads}
 use Rattle.staircase.proofs.SoundLines.{sound-lines}
@@ -69,7 +64,6 @@ use Rattle.multiplication.specs.Rows.{most_cells, tables_of}
 use Rattle.division.specs.PairRemainders.{Pairable, FirstFailing}
 use Rattle.division.proofs.LowPairs.{low-pairs}
 use Rattle.acceptance.specs.Answers.{WholeVerdict, LeadsPass, Convertible, WholeSays}
-use Rattle.acceptance.proofs.SmallestRefused.{smallest-refuses}
 use Rattle.acceptance.proofs.WholeOutcome.{Passing, passing-iff}
 
 -- Nothing comes after the checks.
@@ -79,43 +73,32 @@ Passes o = o ≡ passed tt
 module _ (b : StoredBasis) where
   -- The checks refuse the basis so.
   abbrev pub Refuses : Refused → Type 0
-  Refuses e = WholeVerdict {T = Irreducibles} b (Err e)
+  Refuses e = WholeVerdict {T = ArrayVec Monomial} b (Err e)
 
   pub says-refused : (e : Refused) (cells : List ℕ) → length cells ≡ most_cells → Refuses e → WholeSays b (Err e) cells
   says-refused e cells size o = record { size = size; verdict = o; convertible = λ l q. let z : ◌≡◌ {A = ℕ} 0 1 = cc in absurd (omega arith) }
 
-  -- 12 speaks of no line.
-  abbrev pub NotDivided : Type 0
-  NotDivided = (h : 1 < b.p) (k : ℕ) → ¬ Divided (modulo b.p h) (monomials b.n) (stored_lines b h) k
+  pub whole-divided : (k : ℕ) → FirstDivided b (Some k) → Refuses (record { refusal = NotReduced; line = k })
+  whole-divided k first h = inl (k, (first h).0, (first h).1, refl)
 
-  pub whole-divided : (k : ℕ) → FirstDivided b k → ¬ (k ≡ 0) → Refuses (record { refusal = NotReduced; line = k })
-  whole-divided k first some h = smallest-refuses 12 (
-      refuse 13 at_0_if ¬ ZeroDimensional b.n (stored_lines b h) else
-      refuse 14 at_0_if Large b.n (stored_lines b h) else
-      refuse 15 at_smallest Failing (modulo b.p h) (monomials b.n) (stored_lines b h) (Grevlex b.n) else
-      Passes) (first h) some
-
-  pub undivided : (k : ℕ) → FirstDivided b k → k ≡ 0 → NotDivided
-  undivided k first e h = smallest-passes (subst (Smallest _) e (first h)) (λ d. d.line)
-
-  module _ (count : ℕ) (ms : List Monomial) (leads : LeadsOf b count ms) where
-    pub zero-dimensional-leads : (h : 1 < b.p) → Powers b.n (rows_of b.n count ms) ↔ ZeroDimensional b.n (stored_lines b h)
+  module _ (ms : List Monomial) (leads : LeadsOf b ms) where
+    pub zero-dimensional-leads : (h : 1 < b.p) → Powers b.n (rows_of b.n ms) ↔ ZeroDimensional b.n (stored_lines b h)
     zero-dimensional-leads h = subst (λ (L : List (Row b.n)). Powers b.n L ↔ ZeroDimensional b.n (stored_lines b h)) (sym (leads.1 h)) (power-of-leads b.n (stored_lines b h))
 
-    module _ (t : Bool) (says : (t ≡ true) ↔ Powers b.n (rows_of b.n count ms)) (u : NotDivided) where
+    module _ (t : Bool) (says : (t ≡ true) ↔ Powers b.n (rows_of b.n ms)) (u : FirstDivided b None) where
       pub whole-not-zero-dimensional : t ≡ false → Refuses (record { refusal = NotZeroDimensional; line = 0 })
       whole-not-zero-dimensional e h = inr (u h, inl (λ z. false≢true (sym e ∙ says.1 ((zero-dimensional-leads h).1 z)), refl))
 
       pub leads-pass : t ≡ true → LeadsPass b
       leads-pass e h = (u h, (zero-dimensional-leads h).0 (says.0 e))
 
-    -- The answer of `list_irreducibles`: whether there are too many, and the list.
-    abbrev Counted : Bool → List (Row b.n) → Type 0
-    Counted = CountIs b.n (variables b.n) (multiple b.n (rows_of b.n count ms)) most_standard
+    -- `list_irreducibles` answers that there are too many.
+    abbrev TooMany : Type 0
+    TooMany = CountIs b.n (variables b.n) (multiple b.n (rows_of b.n ms)) most_standard None
 
-    -- If there are too many, 33 of them stand in a rising list.
-    large : (B : List (Row b.n)) → Counted true B → (h : 1 < b.p) → Large b.n (stored_lines b h)
-    large B counted h = (more.0, more.1, rising-once ord more.0 more.2, each_of _ more.0 more.3)
+    -- Then 33 of them stand in a rising list.
+    large : TooMany → (h : 1 < b.p) → Large b.n (stored_lines b h)
+    large counted h = (more.0, more.1, rising-once ord more.0 more.2, each_of _ more.0 more.3)
       where
         ord : MonomialOrder (monomials b.n) (Lex b.n (variables b.n))
         ord = lex-order b.n (variables b.n) (variables-ranking b.n).all
@@ -125,16 +108,16 @@ module _ (b : StoredBasis) where
             (ap (λ f. irreducibles b.n (next b.n (variables b.n)) f most_standard) (sym (ap (multiple b.n) (leads.1 h) ∙ multiple-leads b.n (stored_lines b h))) ∙ counted)
             (irreducibles-of-lines b.n ord (next b.n (variables b.n)) (next-lex b.n (variables b.n) (variables-ranking b.n)) (stored_lines b h) most_standard)
 
-    pub whole-large : LeadsPass b → (many : Bool) (B : List (Row b.n)) → Counted many B → many ≡ true → Refuses (record { refusal = TooManyStandardMonomials; line = 0 })
-    whole-large pass many B counted e h = inr ((pass h).0, inr (λ z. z (pass h).1, inl (large B (subst (λ t. Counted t B) e counted) h, refl)))
+    pub whole-large : LeadsPass b → TooMany → Refuses (record { refusal = TooManyStandardMonomials; line = 0 })
+    whole-large pass counted h = inr ((pass h).0, inr (λ z. z (pass h).1, inl (large counted h, refl)))
 
   pub lines_clear : LeadsPass b → (h : 1 < b.p) → Clear (modulo b.p h) (monomials b.n) (stored_lines b h)
   lines_clear pass h = (divided-clear (modulo b.p h) (monomials b.n) (stored_lines b h)).0 (pass h).0
 
-  module _ (sound : Sound b) (filled : WithinArrays b) (pass : LeadsPass b) (l : Irreducibles) (irreducible : ListsIrreducibles b l) (full : l.count ≤ length l.monomials) where
+  module _ (sound : Sound b) (filled : WithinArrays b) (pass : LeadsPass b) (l : List Monomial) (irreducible : ListsIrreducibles b l) where
     pub not-large : (h : 1 < b.p) → ¬ Large b.n (stored_lines b h)
     not-large h (k, e, once, each) =
-        omega (arith, pigeon k (listed b.n l) once (λ m q. (irreducible.lists h).all m (each_at _ k each q)), e, rows-length b.n l.count l.monomials full, irreducible.few)
+        omega (arith, pigeon k (listed b.n l) once (λ m q. (irreducible.lists h).all m (each_at _ k each q)), e, rows-length b.n l, irreducible.few)
 
     -- The least common multiples of leading monomials are low.
     pairable : Pairable b
@@ -163,11 +146,11 @@ module _ (b : StoredBasis) where
       passing : a ≡ true → (h : 1 < b.p) → Passing b.p (prime h) b.n (stored_lines b h)
       passing e h = record { undivided = (pass h).0; dimension = λ z. z (pass h).1; unfailing = (accepted h).1 e }
 
-      pub whole-passes : length cells ≡ most_cells → a ≡ true → WholeSays b (Ok l) cells
+      pub whole-passes : length cells ≡ most_cells → a ≡ true → WholeSays b (Ok (record { items = l })) cells
       whole-passes size e = record {
         size = size;
         verdict = λ h. let w = passing e h in inr (w.undivided, inr (w.dimension, inr (not-large h, inr (w.unfailing, refl))));
-        convertible = λ k q. let same : l ≡ k = cc in subst (λ k. Convertible b k (tables_of cells)) same (record {
+        convertible = λ k q. let same : l ≡ k.items = cc in subst (λ k. Convertible b k (tables_of cells)) same (record {
           reduced = λ h. ((passing-iff b.p (prime h) b.n (stored_lines b h) (lines h)).0 (passing e h)).0;
           irreducibles = irreducible;
           below = acceptance.below;

@@ -24,7 +24,6 @@ use Rattle.groebner.specs.Standard.{ZeroDimensional, Finite}
 use Rattle.groebner.proofs.Instance.{ground, criterion}
 use Rattle.groebner.proofs.ZeroDimension.{zero-dimensional-iff, zero-dimensional?}
 use Rattle.staircase.specs.Conditions.{Divided, Failing, Large}
-use Rattle.staircase.specs.LeastNumber.{smallest}
 use Rattle.staircase.proofs.SmallestLine.{smallest-unique}
 use Rattle.staircase.proofs.ClearLines.{divided-reduced}
 use Rattle.staircase.proofs.FailingPairs.{failing-buchberger}
@@ -90,7 +89,7 @@ AtMostOne {A} P = (o o' : A) → P o → P o' → o ≡ o'
 
 module _ {A : Type 0} (number : ℕ) {later : Judged A → Type 0} (one : AtMostOne later) where
   at-smallest-unique : (Of : ℕ → Type 0) → AtMostOne (refuse number at_smallest Of else later)
-  at-smallest-unique Of o o' (inl (k, a, p, e)) (inl (j, b, q, f)) = e ∙ ap (refused number) (smallest-unique {Of = Of} (smallest a p) (smallest b q)) ∙ sym f
+  at-smallest-unique Of o o' (inl (k, a, p, e)) (inl (j, b, q, f)) = e ∙ ap (refused number) (smallest-unique {Of = Of} (a, p) (b, q)) ∙ sym f
   at-smallest-unique Of o o' (inl (k, a, p, e)) (inr (n, l)) = absurd (n k a)
   at-smallest-unique Of o o' (inr (n, l)) (inl (j, b, q, f)) = absurd (n j b)
   at-smallest-unique Of o o' (inr (n, l)) (inr (m, l')) = one o o' l l'

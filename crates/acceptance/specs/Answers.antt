@@ -7,10 +7,12 @@
 --   with_shape shape r       that answer, with the shape of the basis
 --   TextSays                 the answer to checks 2 to 15 of a text
 use Rattle.std.specs.Prelude.{ℕ, ◌<◌, ◌≡◌, List, length, Result, Ok, Err}
+use Rattle.arrayvec.specs.ArrayVec.{ArrayVec}
 use Rattle.lists.specs.Lists.{Bytes}
 use Rattle.residue.specs.Field.{modulo}
 use Rattle.monomial.specs.Rows.{one}
 use Rattle.monomial.specs.Ordering.{monomials, Grevlex}
+use Rattle.monomial.specs.declared.Monomial.{Monomial}
 use Rattle.answer.specs.Outcomes.{refused, passed}
 use Rattle.answer.specs.Refusals.{number}
 use Rattle.answer.specs.Verdicts.{judged}
@@ -27,8 +29,6 @@ use Rattle.staircase.specs.Leads.{LeadsOf}
 use Rattle.staircase.specs.Sound.{Sound}
 use Rattle.staircase.specs.Conditions.{Divided}
 use Rattle.staircase.specs.Listed.{listed, ListsIrreducibles}
-use Rattle.staircase.specs.declared.leads.Leads.{Leads}
-use Rattle.staircase.specs.declared.irreducible.Irreducibles.{Irreducibles}
 use Rattle.multiplication.specs.Rows.{AllBelow, cell_of, Tables, most_cells, tables_of}
 use Rattle.acceptance.specs.Whole.{Whole}
 use Rattle.acceptance.specs.declared.PassedText.{PassedText}
@@ -42,31 +42,31 @@ abbrev pub LeadsPass : StoredBasis → Type 0
 LeadsPass b = (h : 1 < b.p) → ((k : ℕ) → ¬ Divided (modulo b.p h) (monomials b.n) (stored_lines b h) k) × ZeroDimensional b.n (stored_lines b h)
 
 -- A sound basis with these leading monomials, of which 12 and 13 say nothing.
-pub record PassedTo13 (leads : Leads) (b : StoredBasis) : Type 0 where
+pub record PassedTo13 (leads : List Monomial) (b : StoredBasis) : Type 0 where
   pub sound : Sound b
-  pub leading : LeadsOf b leads.count leads.monomials
+  pub leading : LeadsOf b leads
   pub pass : LeadsPass b
 
 -- What the conversion works on.
-pub record Convertible (b : StoredBasis) (l : Irreducibles) (t : Tables) : Type 0 where
+pub record Convertible (b : StoredBasis) (l : List Monomial) (t : Tables) : Type 0 where
   pub reduced : (h : 1 < b.p) → Reduced (modulo b.p h) (monomials b.n) (Grevlex b.n) (stored_lines b h)
   pub irreducibles : ListsIrreducibles b l
   pub below : AllBelow b.p t
-  pub filled : (h : 1 < b.p) (i : ℕ) → i < b.n → (s : ℕ) → s < l.count → Filled (modulo b.p h) b.n (stored_lines b h) (listed b.n l) (one b.n) (cell_of b.p h t) i s
+  pub filled : (h : 1 < b.p) (i : ℕ) → i < b.n → (s : ℕ) → s < length l → Filled (modulo b.p h) b.n (stored_lines b h) (listed b.n l) (one b.n) (cell_of b.p h t) i s
 
 -- The answer to checks 12 to 15: the outcome, and what the conversion works on if the basis passes.
-pub record WholeSays (b : StoredBasis) (r : Result Irreducibles Refused) (cells : List ℕ) : Type 0 where
+pub record WholeSays (b : StoredBasis) (r : Result (ArrayVec Monomial) Refused) (cells : List ℕ) : Type 0 where
   pub size : length cells ≡ most_cells
   pub verdict : WholeVerdict b r
-  pub convertible : (l : Irreducibles) → r ≡ Ok l → Convertible b l (tables_of cells)
+  pub convertible : (l : ArrayVec Monomial) → r ≡ Ok l → Convertible b l.items (tables_of cells)
 
 -- The answer to checks 12 to 15, with the shape of the basis if it passes.
-abbrev pub with_shape : Shape → Result Irreducibles Refused → Result PassedText Refused
+abbrev pub with_shape : Shape → Result (ArrayVec Monomial) Refused → Result PassedText Refused
 with_shape shape (Ok l) = Ok (record { shape = shape; irreducibles = l })
 with_shape shape (Err e) = Err e
 
 -- The answer to checks 2 to 15 of a text s: refused by 2 to 11; or the arrays hold the basis of a shape, and the answer is that to 12 to 15.
 pub data TextSays (s : Bytes) (r : Result PassedText Refused) (ts cs es cells : List ℕ) : Type 0 where
   lines_refused : {e : Refused} → r ≡ Err e → Checked s (refused (number e.refusal) e.line) → TextSays s r ts cs es cells
-  lines_passed : (shape : Shape) (whole : Result Irreducibles Refused) → Checked s (passed (basis_of (basis_in shape ts cs es)))
+  lines_passed : (shape : Shape) (whole : Result (ArrayVec Monomial) Refused) → Checked s (passed (basis_of (basis_in shape ts cs es)))
       → WholeSays (basis_in shape ts cs es) whole cells → r ≡ with_shape shape whole → TextSays s r ts cs es cells

@@ -16,14 +16,16 @@ use answer::{Refusal, Refused};
 use division::grevlex::SPACE;
 use division::pairs::first_failing;
 use lines::Shape;
+use monomial::Monomial;
 use multiplication::criterion::is_groebner;
 use staircase::divided::first_divided;
 use staircase::irreducible::{Irreducibles, list_irreducibles};
-use staircase::leads::Leads;
+use staircase::leads::leads_of;
 use staircase::sort::by_grevlex;
+use staircase::zero_dimensional::zero_dimensional;
 
 // What a text that passes holds: the shape of its basis, and the irreducible monomials in rising grevlex order.
-#[derive(Clone, Copy)]
+#[derive(Drop)]
 pub struct PassedText {
     pub shape: Shape,
     pub irreducibles: Irreducibles,
@@ -45,17 +47,14 @@ fn check_irreducibles(
     coefficients: &[u16],
     exponents: &[u8],
     shape: Shape,
-    leads: Leads,
+    leads: &[Monomial],
 ) -> Result<Irreducibles, Refused>
-    requires { NoRows cells.old × Stored shape counts.now coefficients.now exponents.now (PassedTo13 leads) }
+    requires { NoRows cells.old × Stored shape counts.now coefficients.now exponents.now (PassedTo13 leads.now) }
     ensures { WholeSays (basis_in shape counts.now coefficients.now exponents.now) result cells.new }
 {
-    let l = list_irreducibles(leads, shape.n);
-    if l.many {
-        return Err(Refusal::TooManyStandardMonomials.at(0));
-    }
-    let s = by_grevlex(l, shape.n);
-    if !is_groebner(&mut *cells, counts, coefficients, exponents, shape, s) {
+    let l = list_irreducibles(leads, shape.n).ok_or(Refusal::TooManyStandardMonomials.at(0))?;
+    let s = by_grevlex(&l, shape.n);
+    if !is_groebner(&mut *cells, counts, coefficients, exponents, shape, &s) {
         let line = failing_line(counts, coefficients, exponents, shape);
         return Err(Refusal::NotGroebner.at(line));
     }
@@ -73,13 +72,12 @@ pub fn check_whole(
     requires { NoRows cells.old × Stored shape counts.now coefficients.now exponents.now Sound }
     ensures { WholeSays (basis_in shape counts.now coefficients.now exponents.now) result cells.new }
 {
-    let leads = Leads::of(exponents, shape.lines);
-    let k = first_divided(counts, coefficients, exponents, shape, leads);
-    if k != 0 {
-        return Err(Refusal::NotReduced.at(k));
+    let leads = leads_of(exponents, shape.lines);
+    if let Some(line) = first_divided(counts, coefficients, exponents, shape, &leads) {
+        return Err(Refusal::NotReduced.at(line));
     }
-    if !leads.zero_dimensional(shape.n) {
+    if !zero_dimensional(&leads, shape.n) {
         return Err(Refusal::NotZeroDimensional.at(0));
     }
-    check_irreducibles(&mut *cells, counts, coefficients, exponents, shape, leads)
+    check_irreducibles(&mut *cells, counts, coefficients, exponents, shape, &leads)
 }

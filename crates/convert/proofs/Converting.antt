@@ -7,6 +7,7 @@ use Prim.Native.Nat.{ℕ, ◌<◌}
 use mathlib.Core.Path.{◌≡◌, sym, subst}
 use mathlib.Core.List.{List}
 use native.Mathlib.Bridge.{le_prop}
+use lib.ListN.{length}
 use Rattle.lists.specs.Lists.{Bytes}
 use Rattle.residue.specs.Prime.{Prime}
 use Rattle.residue.specs.Field.{ZMod, modulo}
@@ -14,6 +15,7 @@ use Rattle.residue.specs.declared.reciprocals.Reciprocals.{Reciprocals}
 use Rattle.monomial.specs.Rows.{Row}
 use Rattle.monomial.specs.Orders.{variables}
 use Rattle.monomial.specs.Ordering.{monomials, Lex, Grevlex}
+use Rattle.monomial.specs.declared.Monomial.{Monomial}
 use Rattle.monomial.proofs.Products.{rows-laws}
 use Rattle.answer.specs.Finished.{Finished}
 use Rattle.answer.specs.declared.Refused.{Refused}
@@ -26,7 +28,6 @@ use Rattle.groebner.proofs.Clear.{clear-iff}
 use Rattle.groebner.proofs.Next.{variables-ranking}
 use Rattle.lines.specs.Bases.{StoredBasis}
 use Rattle.staircase.specs.StoredLines as read
-use Rattle.staircase.specs.declared.irreducible.Irreducibles.{Irreducibles}
 use Rattle.multiplication.specs.Rows.{Tables, tables_of}
 use Rattle.fglm.specs.Found.{found_lines, found_standard, Printable}
 use Rattle.fglm.specs.Enumerable.{Enumerated}
@@ -38,7 +39,7 @@ use Rattle.convert.specs.Outcome.{Converts}
 use Rattle.convert.specs.Finished.{PassedBasis, FinishedBasis}
 use Rattle.convert.proofs.Conversions.{outcome-converts}
 
-module _ (b : StoredBasis) (l : Irreducibles) (cells : List ℕ) (basis : PassedBasis l cells b) (reciprocals : Reciprocals)
+module _ (b : StoredBasis) (l : List Monomial) (cells : List ℕ) (basis : PassedBasis l cells b) (reciprocals : Reciprocals)
     (same : reciprocals.field.p ≡ b.p) (s : List ℕ) (identity : s ≡ variables b.n) where
   open basis use {modulus, variables as sizes, convertible as given}
 
@@ -67,7 +68,7 @@ module _ (b : StoredBasis) (l : Irreducibles) (cells : List ℕ) (basis : Passed
     H h = found_lines b.p h b.n r
 
     at : Printable b.p b.n r × ((prime : Prime b.p) → let h = prime.above_one in
-        Enumerates (modulo b.p h) b.n (Grevlex b.n) (Lex b.n (variables b.n)) (read.stored_lines b h) l.count (H h) (found_standard b.n r))
+        Enumerates (modulo b.p h) b.n (Grevlex b.n) (Lex b.n (variables b.n)) (read.stored_lines b h) (length l) (H h) (found_standard b.n r))
     at = converted-at b reciprocals same (variables b.n) l t sizes given.irreducibles (variables-ranking b.n) given.below
         low clear (λ h. (reduced h).groebner) given.filled r found
 
@@ -76,7 +77,7 @@ module _ (b : StoredBasis) (l : Irreducibles) (cells : List ℕ) (basis : Passed
 
     pub converts : (h : 1 < b.p) → Converts b.p h b.n (read.stored_lines b h) (H h) (found_standard b.n r)
     converts h = subst (λ (h : 1 < b.p). Converts b.p h b.n (read.stored_lines b h) (H h) (found_standard b.n r)) (le_prop prime.above_one h)
-        (let q = reduced prime.above_one in outcome-converts b.p prime b.n _ q.lines q.groebner l.count _ _ (at.1 prime))
+        (let q = reduced prime.above_one in outcome-converts b.p prime b.n _ q.lines q.groebner (length l) _ _ (at.1 prime))
       where
         prime : Prime b.p
         prime = modulus.prime

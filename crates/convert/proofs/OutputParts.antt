@@ -26,7 +26,7 @@ use Rattle.convert.proofs.PrintedValues.{standard-printed, lines-printed}
 abbrev pub output : ℕ → ℕ → LexBasis → Bytes
 output p n b =
     printed (header (bytes "lex") p n)
-    ++ (text (generator_lines n b) ++ (printed (lines.standard_line n b.count b.standard) ++ (count_line (bytes "runs") b.count ++ count_line (bytes "end") b.lines)))
+    ++ (text (generator_lines n b) ++ (printed (lines.standard_line n b.standard) ++ (count_line (bytes "runs") (length b.standard) ++ count_line (bytes "end") b.lines)))
 
 -- The text of a basis line, poly lines, a stairs line, a runs line and an end line.
 text-parts : (l : TextLine) (ls : List TextLine) (s : TextLine) (c k : ℕ)
@@ -41,21 +41,21 @@ text-parts l ls s c k =
     last : text (points c ∷ end k ∷ []) ≡ count_line (bytes "runs") c ++ count_line (bytes "end") k
     last = text-line (points c) (end k ∷ []) ∙ ap₂ ◌++◌ (points-counted c) (text-line (end k) [] ∙ append-nil (printed (end k)) ∙ end-counted k)
 
-pub written-output : (p : ℕ) (h : 1 < p) (n : ℕ) (b : LexBasis) → Printable p n b → b.lines ≤ length b.generators → b.count ≤ length b.standard
+pub written-output : (p : ℕ) (h : 1 < p) (n : ℕ) (b : LexBasis) → Printable p n b → b.lines ≤ length b.generators
     → written_of p h n b ≡ output p n b
 unfolding written found_lines found_standard generator_lines lines.standard_line read.lines_of
-written-output p h n b w i j = same ∙ text-parts (header (bytes "lex") p n) (generator_lines n b) (lines.standard_line n b.count b.standard) b.count b.lines
+written-output p h n b w i = same ∙ text-parts (header (bytes "lex") p n) (generator_lines n b) (lines.standard_line n b.standard) (length b.standard) b.lines
   where
     G : List Generator
     G = take b.lines b.generators
 
-    count : length (found_standard n b) ≡ b.count
-    count = length-map (take b.count b.standard) (row n) ∙ length-take-le b.count b.standard j
+    count : length (found_standard n b) ≡ length b.standard
+    count = length-map b.standard (row n)
 
     number : length (found_lines p h n b) ≡ b.lines
     number = length-map (map (terms_in n) G) (read.line_of p h n) ∙ length-map G (terms_in n) ∙ length-take-le b.lines b.generators i
 
     same : written_of p h n b
-        ≡ text ((header (bytes "lex") p n ∷ generator_lines n b) ++ (lines.standard_line n b.count b.standard ∷ points b.count ∷ end b.lines ∷ []))
+        ≡ text ((header (bytes "lex") p n ∷ generator_lines n b) ++ (lines.standard_line n b.standard ∷ points (length b.standard) ∷ end b.lines ∷ []))
     same = ap₂ (λ (ls : List TextLine) (s : List (List ℕ) × ℕ × ℕ). text ((header (bytes "lex") p n ∷ ls) ++ (standard s.0 ∷ points s.1 ∷ end s.2 ∷ [])))
-        (lines-printed p h n G w.each) (λ i. (standard-printed n (take b.count b.standard) w.standard i, count i, number i))
+        (lines-printed p h n G w.each) (λ i. (standard-printed n b.standard w.standard i, count i, number i))

@@ -55,7 +55,7 @@ module _ (input : Bytes) (ts cs es cells : List ℕ) where
         passes (lines_passed shape (Ok l) c w q) = let same : record { shape = shape; irreducibles = l } ≡ t = cc in subst Passes same (c, w)
         passes (lines_passed shape (Err e) c w q) = let z : ◌≡◌ {A = ℕ} 0 1 = cc in absurd (omega arith)
 
-    pub passed-basis : PassedBasis t.irreducibles cells b
+    pub passed-basis : PassedBasis t.irreducibles.items cells b
     unfolding basis_of
     passed-basis =
         let (checked, whole) = says-passed in

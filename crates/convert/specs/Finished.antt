@@ -7,19 +7,19 @@ use Rattle.residue.specs.Prime.{Modulus}
 use Rattle.residue.specs.Field.{ZMod}
 use Rattle.monomial.specs.Sizes.{VariableCount}
 use Rattle.monomial.specs.Rows.{Row}
+use Rattle.monomial.specs.declared.Monomial.{Monomial}
 use Rattle.answer.specs.Finished.{Finished}
 use Rattle.answer.specs.declared.Refused.{Refused}
 use Rattle.groebner.specs.Lines.{Line}
 use Rattle.lines.specs.Bases.{StoredBasis}
 use Rattle.staircase.specs.StoredLines.{stored_lines}
-use Rattle.staircase.specs.declared.irreducible.Irreducibles.{Irreducibles}
 use Rattle.multiplication.specs.Rows.{most_cells, tables_of}
 use Rattle.acceptance.specs.Answers.{Convertible}
 use Rattle.convert.specs.Written.{written}
 use Rattle.convert.specs.Outcome.{Converts}
 
 -- What is known of a basis that passed checks 2 to 15.
-pub record PassedBasis (l : Irreducibles) (cells : List ℕ) (b : StoredBasis) : Type 0 where
+pub record PassedBasis (l : List Monomial) (cells : List ℕ) (b : StoredBasis) : Type 0 where
   pub modulus : Modulus b.p
   pub variables : VariableCount b.n
   pub size : length cells ≡ most_cells

@@ -20,11 +20,11 @@ use fglm::lex_basis::LexShape;
 use lines::Shape;
 use lines::sizes::MAX_LINES;
 use lines::store::{ALL_EXPONENTS, ALL_TERMS};
+use monomial::Monomial;
 use monomial::order::x1_to_xn;
 use multiplication::rows::MAX_CELLS;
 use residue::field::PrimeField;
 use residue::reciprocals::Reciprocals;
-use staircase::irreducible::Irreducibles;
 use tabtext::sink::{Count, Front};
 use tabtext::sizes::MAX_BYTES;
 
@@ -36,12 +36,12 @@ fn finish(
     counts: &[usize],
     coefficients: &[u16],
     exponents: &[u8],
-    lex: LexShape,
+    lex: &LexShape,
     p: u16,
     n: usize,
 ) -> Answer
-    requires { StoredLex lex counts.now coefficients.now exponents.now (ToPrint p n) }
-    ensures { let lent = lex_in lex counts.now coefficients.now exponents.now in ((h : 1 < p) → Finished (written_of p h n lent) output.old output.new result) }
+    requires { StoredLex lex.now counts.now coefficients.now exponents.now (ToPrint p n) }
+    ensures { let lent = lex_in lex.now counts.now coefficients.now exponents.now in ((h : 1 < p) → Finished (written_of p h n lent) output.old output.new result) }
 {
     let mut count = Count { bytes: 0 };
     print_output(&mut count, counts, coefficients, exponents, lex, p, n);
@@ -62,9 +62,9 @@ fn convert_basis(
     exponents: &mut [u8],
     cells: &[u16],
     shape: Shape,
-    irreducibles: Irreducibles,
+    irreducibles: &[Monomial],
 ) -> Answer
-    requires { Stored shape counts.old coefficients.old exponents.old (PassedBasis irreducibles cells.now) }
+    requires { Stored shape counts.old coefficients.old exponents.old (PassedBasis irreducibles.now cells.now) }
     ensures { FinishedBasis (basis_in shape counts.old coefficients.old exponents.old) output.old output.new result }
 {
     let reciprocals = Reciprocals::new(PrimeField::new(shape.p));
@@ -83,7 +83,7 @@ fn convert_basis(
         &*counts,
         &*coefficients,
         &*exponents,
-        lex,
+        &lex,
         shape.p,
         shape.n,
     )
@@ -114,6 +114,6 @@ pub fn convert(input: &[u8], output: &mut [u8]) -> Answer
         &mut exponents,
         &cells,
         passed.shape,
-        passed.irreducibles,
+        &passed.irreducibles,
     )
 }

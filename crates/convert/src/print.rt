@@ -17,11 +17,11 @@ fn print_lines<S: Sink>(
     counts: &[usize],
     coefficients: &[u16],
     exponents: &[u8],
-    lex: LexShape,
+    lex: &LexShape,
     n: usize,
 )
-    requires { StoredLex lex counts.now coefficients.now exponents.now (λ b. LinesFit n b × S.takes sink.old (length (text (generator_lines n b)))) }
-    ensures { sink.new ≡ S.after sink.old (text (generator_lines n (lex_in lex counts.now coefficients.now exponents.now))) }
+    requires { StoredLex lex.now counts.now coefficients.now exponents.now (λ b. LinesFit n b × S.takes sink.old (length (text (generator_lines n b)))) }
+    ensures { sink.new ≡ S.after sink.old (text (generator_lines n (lex_in lex.now counts.now coefficients.now exponents.now))) }
 {
     for j in 0..lex.lines {
         let g = line_at(counts, coefficients, exponents, j);
@@ -34,17 +34,17 @@ pub fn print_output<S: Sink>(
     counts: &[usize],
     coefficients: &[u16],
     exponents: &[u8],
-    lex: LexShape,
+    lex: &LexShape,
     p: u16,
     n: usize,
 )
-    requires { StoredLex lex counts.now coefficients.now exponents.now (λ b. ToPrint p n b × ((h : 1 < p) → S.takes sink.old (length (written_of p h n b)))) }
-    ensures { let lent = lex_in lex counts.now coefficients.now exponents.now in ((h : 1 < p) → sink.new ≡ S.after sink.old (written_of p h n lent)) }
+    requires { StoredLex lex.now counts.now coefficients.now exponents.now (λ b. ToPrint p n b × ((h : 1 < p) → S.takes sink.old (length (written_of p h n b)))) }
+    ensures { let lent = lex_in lex.now counts.now coefficients.now exponents.now in ((h : 1 < p) → sink.new ≡ S.after sink.old (written_of p h n lent)) }
 {
-    let standard = lex.standard;
+    let count = lex.standard.len();
     print_header(&mut *sink, b"lex", p, n);
     print_lines(&mut *sink, counts, coefficients, exponents, lex, n);
-    print_standard(&mut *sink, standard, lex.count, n);
-    print_count(&mut *sink, b"runs", lex.count as u32);
+    print_standard(&mut *sink, &lex.standard, n);
+    print_count(&mut *sink, b"runs", count as u32);
     print_count(&mut *sink, b"end", lex.lines as u32);
 }

@@ -15,8 +15,7 @@ use Rattle.staircase.proofs.RankedLists.{IsRank, rank-place}
 
 pub list-place : (n : ℕ) (l : List Monomial) {ranks : List ℕ} {m : Row n} {w : ℕ} → length ranks ≡ length l → RanksOf n (listed n l) (length l) ranks
     → IsRank n m w → (r : Option ℕ) → FirstRank ranks (length ranks) w r → Place n (listed n l) m r
-list-place n l {ranks} {w = w} size are is r first =
-    rank-place n (subst (λ k. RanksOf n (listed n l) k ranks) (sym (rows-length n l)) are) is r (subst (λ k. FirstRank ranks k w r) (size ∙ sym (rows-length n l)) first)
+list-place n l {ranks} {w = w} size are is r first = rank-place n are (rows-length n l) is r (subst (λ k. FirstRank ranks k w r) size first)
 
 pub place-some : (n : ℕ) (B : List (Row n)) {m : Row n} (r : Option ℕ) → Place n B m r → ¬ Place n B m None → IsSome r
 place-some n B None none h = absurd (h none)

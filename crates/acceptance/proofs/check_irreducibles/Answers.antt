@@ -1,11 +1,8 @@
 -- `check_irreducibles` meets its contract (proofs/WholeChecks.antt).
 use mathlib.Core.Path.{◌≡◌, sym, ◌∙◌}
-use Prim.Native.Nat.{◌≤◌}
 use native.Mathlib.Omega.{arith}
-use borrow.Author.Rules.{rules}
-use lib.ListN.{length}
-use Rattle.lists.proofs.Elements.{length-mapped}
-use Rattle.lines.specs.Sizes.{most_standard}
+use Rattle.std.specs.Prelude.{Some, None}
+use Rattle.std.proofs.lemmas.Result.{err_from_is_err_and}
 use Rattle.lines.specs.Bases.{StoredBasis, basis_in}
 use Rattle.staircase.specs.Listed.{ListsIrreducibles}
 use Rattle.staircase.proofs.LineElements.{WithinArrays}
@@ -14,7 +11,7 @@ use Rattle.staircase.proofs.SoundLines.{sound-lines}
 use Rattle.staircase.proofs.IrreducibleLists.{sorted-irreducibles}
 use Rattle.multiplication.proofs.AllRows.{no-rows-length}
 use Rattle.acceptance.proofs.WholeChecks.{says-refused, whole-large, lines_clear, whole-failing, failing, whole-passes}
-use Rattle.acceptance.proofs.check_irreducibles.Goals.{After-by_grevlex-s, Start}
+use Rattle.acceptance.proofs.check_irreducibles.Goals.{After-by_grevlex-s, In_ok-l, Start}
 use Rattle.acceptance.proofs.check_irreducibles.Goals as goal
 
 -- The basis that is lent.
@@ -24,30 +21,29 @@ lent c = basis_in c.args.shape c.args.counts.now c.args.coefficients.now c.args.
 filled : (s : Start) → WithinArrays (lent s)
 filled s = held-filled _ _ _ _ s.requires.1.basis.sound
 
-full : (c : After-by_grevlex-s) → c.by_grevlex-s.result.count ≤ length c.by_grevlex-s.result.monomials
-full c =
-    let e : length c.by_grevlex-s.result.monomials ≡ most_standard = search (length-mapped, rules) in
-    omega (arith, c.by_grevlex-s.ensures.few, c.list_irreducibles-l.ensures.1)
+-- The list of the irreducible monomials.
+counted : (c : In_ok-l) → c.list_irreducibles.result ≡ Some c.in_ok-l.l
+counted c = grind arith
 
-irreducible : (c : After-by_grevlex-s) → ListsIrreducibles (lent (goal.at.After-by_grevlex-s c).Start) c.by_grevlex-s.result
+irreducible : (c : After-by_grevlex-s) → ListsIrreducibles (lent (goal.at.After-by_grevlex-s c).Start) c.by_grevlex-s.result.items
 irreducible c =
     let b = c.requires.1.basis in
-    let (counted, few) = c.list_irreducibles-l.ensures in
-    sorted-irreducibles _ b.sound _ _ b.leading _ _ counted few c.if-l.false c.by_grevlex-s.ensures (full c)
+    let (all, few) = rw (counted (goal.at.After-by_grevlex-s c).In_ok-l) at c.list_irreducibles.ensures in
+    sorted-irreducibles _ b.sound _ b.leading _ _ all few (rw c.deref.ensures.0 at c.by_grevlex-s.ensures)
 
-pub list_irreducibles-l-requires : goal.list_irreducibles-l-requires
-list_irreducibles-l-requires c =
-    let b = c.requires.1.basis in
-    (omega (arith, b.sound.few, b.leading.0), b.sound.variables)
-
-pub returns-then-l : goal.returns-then-l
-returns-then-l c =
+pub returns-in_err-l : goal.returns-in_err-l
+returns-in_err-l c =
+    let e = err_from_is_err_and c.from_residual.result c.from_residual.ensures.1 in
+    let many : c.list_irreducibles.result ≡ None = grind arith in
+    let same : c.in_err-l.field-0.0 ≡ c.at.result = grind arith in
     let (none, s) = c.requires in
-    let large = whole-large _ _ _ s.basis.leading s.basis.pass _ _ c.list_irreducibles-l.ensures.0 c.if-l.true in
-    rw c.at.ensures (says-refused _ _ _ (no-rows-length none) large)
+    let counted = rw many at c.list_irreducibles.ensures in
+    rw (e.1, e.2, same, c.at.ensures) (says-refused _ _ _ (no-rows-length none) (whole-large _ _ s.basis.leading s.basis.pass counted.0))
 
 pub by_grevlex-s-requires : goal.by_grevlex-s-requires
-by_grevlex-s-requires c = (c.requires.1.basis.sound.variables.most, c.list_irreducibles-l.ensures.1)
+by_grevlex-s-requires c =
+    let (_, few) = rw (counted (goal.at.by_grevlex-s-requires c).In_ok-l) at c.list_irreducibles.ensures in
+    (c.requires.1.basis.sound.variables.most, rw c.deref.ensures.0 few)
 
 pub is_groebner-requires : goal.is_groebner-requires
 is_groebner-requires c =
@@ -58,7 +54,7 @@ is_groebner-requires c =
         arrays = s.arrays;
         basis = record {
           sound = b.sound;
-          irreducibles = irreducible (goal.at.is_groebner-requires c).After-by_grevlex-s;
+          irreducibles = rw c.deref-2.ensures.0 (irreducible (goal.at.is_groebner-requires c).After-by_grevlex-s);
           lines = sound-lines _ b.sound (filled (goal.at.is_groebner-requires c).Start);
           clear = lines_clear _ b.pass;
           zero_dimensional = λ h. (b.pass h).1;
@@ -70,8 +66,8 @@ pub failing_line-line-requires : goal.failing_line-line-requires
 failing_line-line-requires c =
     let s = c.requires.1 in
     let b = s.basis in
-    let (size, accepted) = c.is_groebner.ensures in
-    record { arrays = s.arrays; basis = failing _ b.sound (filled (goal.at.failing_line-line-requires c).Start) b.pass _ (irreducible (goal.at.failing_line-line-requires c).After-by_grevlex-s) (full (goal.at.failing_line-line-requires c).After-by_grevlex-s) _ _ accepted c.if-not-is_groebner.true }
+    let (size, accepted) = rw c.deref-2.ensures.0 at c.is_groebner.ensures in
+    record { arrays = s.arrays; basis = failing _ b.sound (filled (goal.at.failing_line-line-requires c).Start) b.pass _ (irreducible (goal.at.failing_line-line-requires c).After-by_grevlex-s) _ _ accepted c.if-not-is_groebner.true }
 
 pub shape_of-cells-then-not-is_groebner : goal.shape_of-cells-then-not-is_groebner
 shape_of-cells-then-not-is_groebner c = c.is_groebner.ensures.0 ∙ sym (no-rows-length c.requires.0)
@@ -79,9 +75,8 @@ shape_of-cells-then-not-is_groebner c = c.is_groebner.ensures.0 ∙ sym (no-rows
 pub returns-then-not-is_groebner : goal.returns-then-not-is_groebner
 returns-then-not-is_groebner c =
     let b = c.requires.1.basis in
-    let (size, accepted) = c.is_groebner.ensures in
-    let whole = whole-failing _ b.sound (filled (goal.at.returns-then-not-is_groebner c).Start) b.pass _ (irreducible (goal.at.returns-then-not-is_groebner c).After-by_grevlex-s) (full (goal.at.returns-then-not-is_groebner c).After-by_grevlex-s) _ c.failing_line-line.ensures in
-    rw c.at-then-not-is_groebner.ensures (says-refused _ _ _ size whole)
+    let whole = whole-failing _ b.sound (filled (goal.at.returns-then-not-is_groebner c).Start) b.pass _ (irreducible (goal.at.returns-then-not-is_groebner c).After-by_grevlex-s) _ c.failing_line-line.ensures in
+    rw c.at-then-not-is_groebner.ensures (says-refused _ _ _ c.is_groebner.ensures.0 whole)
 
 pub shape_of-cells : goal.shape_of-cells
 shape_of-cells c = c.is_groebner.ensures.0 ∙ sym (no-rows-length c.requires.0)
@@ -89,5 +84,5 @@ shape_of-cells c = c.is_groebner.ensures.0 ∙ sym (no-rows-length c.requires.0)
 pub returns : goal.returns
 returns c =
     let b = c.requires.1.basis in
-    let (size, accepted) = c.is_groebner.ensures in
-    whole-passes _ b.sound (filled (goal.at.returns c).Start) b.pass _ (irreducible (goal.at.returns c).After-by_grevlex-s) (full (goal.at.returns c).After-by_grevlex-s) _ _ accepted size c.if-not-is_groebner.false
+    let (size, accepted) = rw c.deref-2.ensures.0 at c.is_groebner.ensures in
+    whole-passes _ b.sound (filled (goal.at.returns c).Start) b.pass _ (irreducible (goal.at.returns c).After-by_grevlex-s) _ _ accepted size c.if-not-is_groebner.false

@@ -13,7 +13,7 @@ use Rattle.convert.proofs.print.print_lines.Goals as goal
 
 -- The lex basis that is lent.
 abbrev lent : (g : _) → Start g → LexBasis
-lent g c = lex_in c.args.lex c.args.counts.now c.args.coefficients.now c.args.exponents.now
+lent g c = lex_in c.args.lex.now c.args.counts.now c.args.coefficients.now c.args.exponents.now
 
 pub loop-j-init : goal.loop-j-init
 loop-j-init g c = printing-lines-start g.met.S.Sink.laws c.requires.basis.1
@@ -27,7 +27,7 @@ here g c = generator_line c.args.n c.line_at-g.result
 
 stands : (g : _) (c : After-line_at-g g) → StandsAt (generator_lines c.args.n (lent g (goal.at.After-line_at-g g c).Start)) c.loop-j.j (here g c)
 stands g c =
-    read-stands c.args.lex _ _ _ c.requires.basis.0.lines _ _ c.line_at-g.ensures c.loop-j-test.true c.args.n
+    read-stands c.args.lex.now _ _ _ c.requires.basis.0.lines _ _ c.line_at-g.ensures c.loop-j-test.true c.args.n
 
 room : (g : _) (c : After-line_at-g g) → g.S.Sink.takes c.loop-j.sink (length (printed (here g c)))
 room g c = printing-lines-room g.met.S.Sink.laws c.loop-j.invariant (here g c) (stands g c)
@@ -35,7 +35,7 @@ room g c = printing-lines-room g.met.S.Sink.laws c.loop-j.invariant (here g c) (
 pub print_generator-requires : goal.print_generator-requires
 print_generator-requires g c =
     let fit = c.requires.basis.0 in (
-      read_held c.args.lex _ _ _ fit.lines _ _ c.line_at-g.ensures c.loop-j-test.true _ fit,
+      read_held c.args.lex.now _ _ _ fit.lines _ _ c.line_at-g.ensures c.loop-j-test.true _ fit,
       fit.variables,
       room g (goal.at.print_generator-requires g c).After-line_at-g,
     )
@@ -46,5 +46,5 @@ loop-j-preserved g c =
 
 pub returns : goal.returns
 returns g c =
-    let many = read-many c.args.lex c.args.counts.now c.args.coefficients.now c.args.exponents.now c.requires.basis.0.lines c.args.n in
+    let many = read-many c.args.lex.now c.args.counts.now c.args.coefficients.now c.args.exponents.now c.requires.basis.0.lines c.args.n in
     printing-lines-end g.met.S.Sink.laws c.loop-j.invariant (omega (arith, many, c.loop-j-test.false))

@@ -6,4 +6,4 @@ use Rattle.convert.proofs.print.print_lines.Given as goal
 
 abbrev pub invariant-loop-j : goal.invariant-loop-j
 invariant-loop-j g l =
-    PrintingLines (generator_lines l.n (lex_in l.fn.lex l.counts l.coefficients l.exponents)) g.S.Sink.takes g.S.Sink.after l.fn.sink l.sink l.j
+    PrintingLines (generator_lines l.n (lex_in l.lex l.counts l.coefficients l.exponents)) g.S.Sink.takes g.S.Sink.after l.fn.sink l.sink l.j

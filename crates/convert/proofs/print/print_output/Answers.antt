@@ -1,13 +1,10 @@
 -- `print::print_output` meets its contract: line by line, what is left of the output.
-use Prim.Native.Nat.{◌<◌}
-use mathlib.Core.Path.{◌≡◌, refl, subst}
+use Prim.Native.Nat.{ℕ, ◌<◌}
+use mathlib.Core.Path.{◌≡◌, refl, sym, subst}
 use mathlib.Core.List.{◌++◌}
-use borrow.Author.Rules.{rules}
 use native.Mathlib.Omega.{arith}
 use lib.ListN.{length}
 use Rattle.lists.specs.Lists.{Bytes}
-use Rattle.lists.proofs.Elements.{length-mapped}
-use Rattle.lines.specs.Sizes.{most_standard}
 use Rattle.lines.proofs.Lines.{lines-length}
 use Rattle.tabtext.specs.Text.{bytes, header, text}
 use Rattle.tabtext.specs.Printed.{standard_line, printed, count_line}
@@ -21,7 +18,7 @@ use Rattle.convert.proofs.print.print_output.Goals as goal
 
 -- The lex basis that is lent.
 abbrev lent : (g : _) → Start g → LexBasis
-lent g s = lex_in s.args.lex s.args.counts.now s.args.coefficients.now s.args.exponents.now
+lent g s = lex_in s.args.lex.now s.args.counts.now s.args.coefficients.now s.args.exponents.now
 
 -- The lines of the output.
 abbrev basis-line : (g : _) → Start g → Bytes
@@ -31,21 +28,20 @@ abbrev poly-lines : (g : _) → Start g → Bytes
 poly-lines g s = text (generator_lines s.args.n (lent g s))
 
 abbrev standard-line : (g : _) → Start g → Bytes
-standard-line g s = printed (standard_line s.args.n s.args.lex.count s.args.lex.standard)
+standard-line g s = printed (standard_line s.args.n s.args.lex.now.standard.items)
 
 abbrev points-line : (g : _) → Start g → Bytes
-points-line g s = count_line (bytes "runs") s.args.lex.count
+points-line g s = count_line (bytes "runs") (length s.args.lex.now.standard.items)
 
 abbrev end_line : (g : _) → Start g → Bytes
-end_line g s = count_line (bytes "end") s.args.lex.lines
+end_line g s = count_line (bytes "end") s.args.lex.now.lines
 
 -- The output is these lines.
 parts : (g : _) (s : Start g) (h : 1 < s.args.p) → written_of s.args.p h s.args.n (lent g s) ≡ output s.args.p s.args.n (lent g s)
 parts g s h =
     let w = s.requires.basis.0.printable in
-    let m : length s.args.lex.standard ≡ most_standard = search (length-mapped, rules) in
     let k = lines-length s.args.counts.now s.args.coefficients.now s.args.exponents.now in
-    written-output s.args.p h s.args.n (lent g s) w (omega (arith, w.lines, k)) (omega (arith, w.count))
+    written-output s.args.p h s.args.n (lent g s) w (omega (arith, w.lines, k))
 
 -- What is left of them.
 abbrev Rest : (g : _) → Start g → Bytes → g.row.S.Denot → Type 0
@@ -85,27 +81,26 @@ pub print_standard-requires : goal.print_standard-requires
 print_standard-requires g c =
     let s = (goal.at.print_standard-requires g c).Start in
     let given = c.requires.basis.0 in
-    (given.printable.count, given.variables, left-room g.met.S.Sink.laws (standard-line g s) (points-line g s ++ end_line g s) refl (after-lines g (goal.at.print_standard-requires g c).After-print_lines))
+    (given.variables, rw c.deref.ensures.0 (left-room g.met.S.Sink.laws (standard-line g s) (points-line g s ++ end_line g s) refl (after-lines g (goal.at.print_standard-requires g c).After-print_lines)))
 
 after-standard : (g : _) (c : After-print_standard g) →
     let s = (goal.at.After-print_standard g c).Start in
     Rest g s (points-line g s ++ end_line g s) c.print_standard.new.sink
-after-standard g c = left_less g.met.S.Sink.laws _ _ refl (after-lines g (goal.at.After-print_standard g c).After-print_lines) c.print_standard.ensures.printed
+after-standard g c = left_less g.met.S.Sink.laws _ _ refl (after-lines g (goal.at.After-print_standard g c).After-print_lines) (rw c.deref.ensures.0 at c.print_standard.ensures.printed)
 
 pub print_count-requires : goal.print_count-requires
 unfolding bytes
 print_count-requires g c =
     let s = (goal.at.print_count-requires g c).Start in
-    left-room g.met.S.Sink.laws (points-line g s) (end_line g s) refl (after-standard g (goal.at.print_count-requires g c).After-print_standard)
+    let left = after-standard g (goal.at.print_count-requires g c).After-print_standard in
+    subst (λ (k : ℕ). g.S.Sink.takes c.print_standard.new.sink (length (count_line (bytes "runs") k))) (sym c.len-count.ensures.value)
+    (left-room g.met.S.Sink.laws (points-line g s) (end_line g s) refl left)
 
 after-points : (g : _) (c : After-print_count g) →
     let s = (goal.at.After-print_count g c).Start in
     Rest g s (end_line g s) c.print_count.new.sink
 unfolding bytes
-after-points g c = left_less g.met.S.Sink.laws (points-line g (goal.at.After-print_count g c).Start) _ refl (after-standard g (goal.at.After-print_count g c).After-print_standard) c.print_count.ensures.printed
-
-pub overflow_cast-lex-2 : goal.overflow_cast-lex-2
-overflow_cast-lex-2 g c = omega (arith, c.requires.basis.0.printable.lines)
+after-points g c = left_less g.met.S.Sink.laws (points-line g (goal.at.After-print_count g c).Start) _ refl (after-standard g (goal.at.After-print_count g c).After-print_standard) (rw c.len-count.ensures.value at c.print_count.ensures.printed)
 
 pub print_count-requires-2 : goal.print_count-requires-2
 unfolding bytes
