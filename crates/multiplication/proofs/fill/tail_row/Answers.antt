@@ -32,11 +32,11 @@ pub subtract_at-r-requires : goal.subtract_at-r-requires
 subtract_at-r-requires c =
     let inv = c.loop-k.invariant in
     let (_, _, l, m) = c.requires in
-    (inv.below, gathered-small inv c.loop-k-test.true, m, λ k e. omega (arith, (c.rank_place-at.ensures.some k e).within, l))
+    (inv.below, gathered-small inv (omega arith), m, λ k e. omega (arith, (c.rank_place-at.ensures.some k e).within, l))
 
 pub loop-k-preserved : goal.loop-k-preserved
 loop-k-preserved c =
-    gathered-more c.loop-k.invariant c.loop-k-test.true (place (goal.at.loop-k-preserved c).After-rank_place-at) c.subtract_at-r.ensures
+    gathered-more c.loop-k.invariant (omega arith) (place (goal.at.loop-k-preserved c).After-rank_place-at) c.subtract_at-r.ensures
 
 pub returns : goal.returns
 returns c = gathered-all c.loop-k.invariant (omega arith)
