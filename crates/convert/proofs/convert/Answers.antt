@@ -30,7 +30,7 @@ returns-in_err-passed c =
 pub convert_basis-requires : goal.convert_basis-requires
 convert_basis-requires c =
     let says = c.in_ok-passed.ensures in
-    record { arrays = says.arrays; basis = passed-basis _ _ _ _ _ _ says.text }
+    record { arrays = says.arrays; basis = rw c.deref.ensures.0 (passed-basis _ _ _ _ _ _ says.text) }
 
 pub returns : goal.returns
 returns c =
