@@ -17,10 +17,10 @@ use mathlib.Core.List.{List}
 use mathlib.Core.Logic.Iff
 use mathlib.Core.Logic.{inl, inr, ◌↔◌}
 use mathlib.Core.Option.{none}
-use Prim.Native.Nat.{ℕ, ◌≤◌, ◌<◌}
+use Prim.Native.Nat.{ℕ, ◌<◌}
 use native.Mathlib.Omega.{arith}
 use lib.ListN.{length}
-use Rattle.std.specs.Prelude.{Option, Some, None, Ok, Err}
+use Rattle.std.specs.Prelude.{Some, None, Ok, Err}
 use Rattle.arrayvec.specs.ArrayVec.{ArrayVec}
 use Rattle.lists.proofs.EachElement.{each_of, each_at}
 use Rattle.residue.specs.Prime.{Prime}
@@ -32,7 +32,7 @@ use Rattle.monomial.proofs.OrderLaws.{MonomialOrder}
 use Rattle.monomial.specs.declared.Monomial.{Monomial}
 use Rattle.monomial.proofs.LexOrder.{lex-order}
 use Rattle.monomial.proofs.GrevlexOrder.{grevlex-order}
-use Rattle.answer.specs.Outcomes.{Judged, passed, refuse◌at_smallest◌else◌, refuse◌at_0_if◌else◌}
+use Rattle.answer.specs.Outcomes.{Judged, passed}
 use Rattle.answer.specs.declared.Refused.{Refused}
 use Rattle.answer.specs.declared.Refusal.TheVariants.{NotReduced, NotZeroDimensional, TooManyStandardMonomials, NotGroebner}
 use Rattle.groebner.specs.Lines.{Lines, Reducible}
@@ -50,7 +50,7 @@ use Rattle.staircase.specs.StoredLines.{stored_lines}
 use Rattle.staircase.specs.Leads.{rows_of, LeadsOf, multiple, Powers, CountIs}
 use Rattle.staircase.specs.Places.{FirstDivided}
 use Rattle.staircase.specs.Sound.{Sound}
-use Rattle.staircase.specs.Conditions.{Divided, Large, Failing}
+use Rattle.staircase.specs.Conditions.{Large, Failing}
 use Rattle.staircase.specs.Listed.{listed, ListsIrreducibles}
 use Rattle.staircase.proofs.ArrayRows.{rows-length}
 use Rattle.staircase.proofs.LineElements.{WithinArrays}

@@ -1,6 +1,5 @@
 -- `check_whole` meets its contract (proofs/WholeChecks.antt).
-use mathlib.Core.Path.{◌≡◌, sym, ◌∙◌}
-use Rattle.std.specs.Prelude.{Some, None}
+use mathlib.Core.Path.{sym, ◌∙◌}
 use Rattle.lines.specs.Bases.{StoredBasis, basis_in}
 use Rattle.staircase.specs.Leads.{LeadsOf}
 use Rattle.staircase.proofs.StoredBasis.{held-leads}
