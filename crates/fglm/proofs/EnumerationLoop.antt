@@ -15,7 +15,7 @@ use Prim.Native.Nat.{ℕ, suc, ◌+◌, ◌*◌, ◌≤◌, ◌<◌}
 use native.Mathlib.Nat.{mul-le-mul_left}
 use native.Mathlib.Decide.{dec_lt}
 use native.Mathlib.Omega.{arith}
-use lib.ListN.{length, take, set, length-set, length-append}
+use lib.ListN.{length, take, set, length-set}
 use Rattle.std.specs.Prelude.{Option, Some, None, option_map, IfSome}
 use lib.Seq.{take-suc-set}
 use Rattle.lists.specs.Lists.{Each}

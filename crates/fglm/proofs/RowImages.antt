@@ -4,9 +4,7 @@
 --   image-product   the row of x_i·b as that of m
 use mathlib.Core.Path.{◌≡◌, refl, sym, ◌∙◌, subst}
 use mathlib.Core.List.{List}
-use mathlib.Core.Logic.{by_cases}
-use Prim.Native.Nat.{ℕ, ◌≤◌, ◌<◌}
-use native.Mathlib.Decide.{dec_lt}
+use Prim.Native.Nat.{ℕ, ◌<◌}
 use native.Mathlib.Omega.{arith}
 use lib.ListN.{length}
 use Rattle.std.specs.Prelude.{Option, Some, None, IsSome}
@@ -17,7 +15,6 @@ use Rattle.monomial.specs.Represented.{row}
 use Rattle.monomial.specs.declared.Monomial.{Monomial}
 use Rattle.staircase.specs.Listed.{listed, listed_at, Place}
 use Rattle.staircase.proofs.ArrayRows.{rows-length}
-use Rattle.coordinates.specs.Vectors.{coordinate, indicator}
 use Rattle.coordinates.specs.declared.Coordinates.{Coordinates}
 use Rattle.coordinates.proofs.UnitRows.{indicator-other, indicator-below}
 use Rattle.multiplication.specs.Rows.{Multiplied, Tables}

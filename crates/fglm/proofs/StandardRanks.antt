@@ -8,7 +8,7 @@ use mathlib.Core.Logic.{by_cases}
 use Prim.Native.Nat.{ℕ}
 use native.Mathlib.Decide.{dec_lt}
 use native.Mathlib.Omega.{arith}
-use lib.ListN.{length, get_or, length-append, get_or-append}
+use lib.ListN.{length, length-append, get_or-append}
 use lib.Seq.{get_or_at}
 use Rattle.monomial.specs.Represented.{row}
 use Rattle.monomial.specs.Ranks.{rank_of, Short, RanksOf}

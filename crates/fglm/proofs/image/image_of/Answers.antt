@@ -1,17 +1,14 @@
 -- `image_of` meets its contract.
 use mathlib.Core.Path.{◌≡◌, sym, ◌∙◌, ap, subst}
-use Prim.Native.Nat.{◌≤◌, ◌<◌}
+use Prim.Native.Nat.{◌<◌}
 use native.Mathlib.Omega.{arith}
-use borrow.Author.Rules.{rules}
 use lib.ListN.{length}
-use Rattle.lists.proofs.Elements.{length-mapped}
 use Rattle.monomial.specs.Rows.{product}
 use Rattle.monomial.specs.Quotients.{variable}
 use Rattle.monomial.specs.Represented.{row}
 use Rattle.monomial.specs.FirstVariable.{VariableAt}
 use Rattle.monomial.proofs.Variables.{first-none, first_some}
 use Rattle.monomial.proofs.RankPlaces.{first-front}
-use Rattle.lines.specs.Sizes.{most_standard}
 use Rattle.staircase.specs.Listed.{listed, PlaceAt, Place}
 use Rattle.staircase.proofs.ArrayRows.{rows-length}
 use Rattle.staircase.proofs.RankedLists.{rank-place}

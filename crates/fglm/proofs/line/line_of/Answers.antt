@@ -1,11 +1,10 @@
 -- `line_of` meets its contract. The loop's invariant: the terms of the standard monomials from place k on are written.
-use Prim.Native.Nat.{◌≤◌, ◌<◌}
-use mathlib.Core.Path.{◌≡◌, refl}
+use Prim.Native.Nat.{◌<◌}
+use mathlib.Core.Path.{refl}
 use native.Mathlib.Omega.{arith}
 use borrow.Author.Rules.{rules}
-use lib.ListN.{length}
 use Rattle.lists.proofs.Elements.{length-mapped}
-use Rattle.lines.specs.Sizes.{most_standard, most_terms}
+use Rattle.lines.specs.Sizes.{most_terms}
 use Rattle.coordinates.specs.Vectors.{FullLength}
 use Rattle.fglm.proofs.LineTerms.{arrays-stored, less-stored, FirstTerm, first-term, writing_start, writing-turn, writing-stop}
 use Rattle.fglm.proofs.line.line_of.Goals.{After-neg, After-with_term-g, In-loop-k, Start}
