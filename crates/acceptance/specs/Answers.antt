@@ -4,7 +4,6 @@
 --   PassedTo13 leads b       b is sound besides, and has these leading monomials
 --   Convertible b l t        what a basis that passes has for the conversion: a reduced Groebner basis, its irreducible monomials, its multiplication rows
 --   WholeSays b r cells      the answer to checks 12 to 15
---   with_shape shape r       that answer, with the shape of the basis
 --   TextSays                 the answer to checks 2 to 15 of a text
 use Rattle.std.specs.Prelude.{ℕ, ◌<◌, ◌≡◌, List, length, Result, Ok, Err}
 use Rattle.arrayvec.specs.ArrayVec.{ArrayVec}
@@ -20,8 +19,7 @@ use Rattle.answer.specs.declared.Refused.{Refused}
 use Rattle.groebner.specs.Bases.{Reduced}
 use Rattle.groebner.specs.Standard.{ZeroDimensional}
 use Rattle.groebner.specs.MultiplicationRows.{Filled}
-use Rattle.lines.specs.Bases.{StoredBasis, basis_in}
-use Rattle.lines.specs.declared.Shape.{Shape}
+use Rattle.lines.specs.declared.StoredBasis.{StoredBasis}
 use Rattle.checks.specs.Checks.{Checked}
 use Rattle.checks.specs.Answers.{basis_of}
 use Rattle.staircase.specs.StoredLines.{stored_lines}
@@ -31,7 +29,6 @@ use Rattle.staircase.specs.Conditions.{Divided}
 use Rattle.staircase.specs.Listed.{listed, ListsIrreducibles}
 use Rattle.multiplication.specs.Rows.{AllBelow, cell_of, Tables, most_cells, tables_of}
 use Rattle.acceptance.specs.Whole.{Whole}
-use Rattle.acceptance.specs.declared.PassedText.{PassedText}
 
 -- The answer r is the outcome of checks 12 to 15.
 abbrev pub WholeVerdict : {T : Type 0} → StoredBasis → Result T Refused → Type 0
@@ -60,13 +57,7 @@ pub record WholeSays (b : StoredBasis) (r : Result (ArrayVec Monomial) Refused) 
   pub verdict : WholeVerdict b r
   pub convertible : (l : ArrayVec Monomial) → r ≡ Ok l → Convertible b l.items (tables_of cells)
 
--- The answer to checks 12 to 15, with the shape of the basis if it passes.
-abbrev pub with_shape : Shape → Result (ArrayVec Monomial) Refused → Result PassedText Refused
-with_shape shape (Ok l) = Ok (record { shape = shape; irreducibles = l })
-with_shape shape (Err e) = Err e
-
--- The answer to checks 2 to 15 of a text s: refused by 2 to 11; or the arrays hold the basis of a shape, and the answer is that to 12 to 15.
-pub data TextSays (s : Bytes) (r : Result PassedText Refused) (ts cs es cells : List ℕ) : Type 0 where
-  lines_refused : {e : Refused} → r ≡ Err e → Checked s (refused (number e.refusal) e.line) → TextSays s r ts cs es cells
-  lines_passed : (shape : Shape) (whole : Result (ArrayVec Monomial) Refused) → Checked s (passed (basis_of (basis_in shape ts cs es)))
-      → WholeSays (basis_in shape ts cs es) whole cells → r ≡ with_shape shape whole → TextSays s r ts cs es cells
+-- The answer to checks 2 to 15 of a text s: refused by 2 to 11; or b is the basis of the text, and the answer is that to 12 to 15.
+pub data TextSays (s : Bytes) (r : Result (ArrayVec Monomial) Refused) (b : StoredBasis) (cells : List ℕ) : Type 0 where
+  lines_refused : {e : Refused} → r ≡ Err e → Checked s (refused (number e.refusal) e.line) → TextSays s r b cells
+  lines_passed : Checked s (passed (basis_of b)) → WholeSays b r cells → TextSays s r b cells

@@ -1,5 +1,5 @@
 -- Inner contracts. The basis that a value of the code holds, and what the answers of the code say.
---   basis_of b        the basis that b holds: of its lines the first, of their terms the first; what stands after these is free
+--   basis_of b        the basis that b holds
 --   Ahead n s terms   the terms stand at the front of s
 --   LaterSays         what the answer to the later terms of a poly line says
 --   GeneratorSays     what the answer to a poly line says
@@ -11,17 +11,18 @@
 --   BasisSays         what the answer to a text says
 use Rattle.std.specs.Prelude.{ℕ, suc, ◌≤◌, ◌<◌, ◌≡◌, List, [], ◌∷◌, ◌++◌, true, false, length, drop, ⊤, Result, Ok, Err, Option, Some, None}
 use Rattle.std.proofs.Math.Option.{none, some}
+use Rattle.arrayvec.specs.ArrayVec.{ArrayVec}
 use Rattle.lists.specs.Lists.{Bytes}
 use Rattle.answer.specs.Verdicts.{judged}
 use Rattle.answer.specs.Outcomes.{refused, passed}
 use Rattle.answer.specs.Refusals.{number}
 use Rattle.answer.specs.declared.Refusal.{Refusal}
 use Rattle.answer.specs.declared.Refused.{Refused}
-use Rattle.lines.specs.Bases.{PaddedLine, PaddedBasis, StoredBasis, basis_in, generators_in}
+use Rattle.lines.specs.Bases.{PaddedLine, PaddedBasis, generators_in}
 use Rattle.lines.specs.Terms.{Term}
-use Rattle.lines.specs.LineTerms.{terms_in}
-use Rattle.lines.specs.declared.Shape.{Shape}
-use Rattle.lines.specs.declared.line.Generator.{Generator}
+use Rattle.lines.specs.LineTerms.{term_of, terms_in}
+use Rattle.lines.specs.declared.line.LineTerm.{LineTerm}
+use Rattle.lines.specs.declared.StoredBasis.{StoredBasis}
 use Rattle.tabtext.specs.Text.{generator, end}
 use Rattle.tabtext.specs.Readers.{got, starts_with, read_term}
 use Rattle.checks.specs.Checks.{check_terms, check_generator, Front, Remaining, Checked}
@@ -37,14 +38,14 @@ abbrev pub Ahead : ℕ → Bytes → List Term → Type 0
 Ahead n s [] = starts_with 9 s ≡ false
 Ahead n s (t ∷ ts) = (rest : Bytes) × (starts_with 9 s ≡ true) × (read_term n (drop 1 s) ≡ got t rest) × Ahead n rest ts
 
--- The answer to the terms after those of g, the last of which is `before`: the outcome of their checks, and all terms if they pass.
-abbrev pub LaterSays : (p n : ℕ) → Generator → Term → List Term → Result Generator Refusal → Type 0
-LaterSays p n g before left (Ok r) = check_terms p n (suc g.terms) before left none × (terms_in n r ≡ terms_in n g ++ left) × PaddedLine n r
-LaterSays p n g before left (Err k) = check_terms p n (suc g.terms) before left (some (number k))
+-- The answer to the terms after the first, which is `before` as it was read: the outcome of their checks, and all terms if they pass.
+abbrev pub LaterSays : (p n : ℕ) → LineTerm → Term → List Term → Result (ArrayVec LineTerm) Refusal → Type 0
+LaterSays p n first before left (Ok r) = check_terms p n 2 before left none × (terms_in n r.items ≡ term_of n first ∷ left) × PaddedLine n r.items
+LaterSays p n first before left (Err k) = check_terms p n 2 before left (some (number k))
 
 -- The answer to the k-th poly line, with the given terms: the outcome of its checks, and the terms if it passes.
-abbrev pub GeneratorSays : (p n k : ℕ) → List Term → Result Generator Refusal → Type 0
-GeneratorSays p n k terms (Ok g) = check_generator p n k terms none × (terms_in n g ≡ terms) × PaddedLine n g
+abbrev pub GeneratorSays : (p n k : ℕ) → List Term → Result (ArrayVec LineTerm) Refusal → Type 0
+GeneratorSays p n k terms (Ok g) = check_generator p n k terms none × (terms_in n g.items ≡ terms) × PaddedLine n g.items
 GeneratorSays p n k terms (Err r) = check_generator p n k terms (some (number r))
 
 -- v is the verdict on the lines s that come after k poly lines, whatever these are.
@@ -56,7 +57,7 @@ abbrev pub EndSays : (k count : ℕ) → Bytes → Result ⊤ Refused → Type 0
 EndSays k count rest v = (p n : ℕ) (s : Bytes) → Front n s (end count) rest → Stops p n k s v
 
 -- At the place `at`, after k poly lines, stands the poly line g, and passes; the text goes on at i.
-pub record PassedLine (p n k : ℕ) (s : Bytes) (at i : ℕ) (g : Generator) : Type 0 where
+pub record PassedLine (p n k : ℕ) (s : Bytes) (at i : ℕ) (g : List LineTerm) : Type 0 where
   pub front : Front n (drop at s) (generator (terms_in n g)) (drop i s)
   pub passes : check_generator p n (suc k) (terms_in n g) none
   pub padded : PaddedLine n g
@@ -64,17 +65,17 @@ pub record PassedLine (p n k : ℕ) (s : Bytes) (at i : ℕ) (g : Generator) : T
   pub inside : i ≤ length s
 
 -- The answer to the line at a place, after k poly lines: a poly line that passes, and the place after it; or the verdict.
-abbrev pub LineSays : (p n k : ℕ) → Bytes → ℕ → Result (Option (Generator × ℕ)) Refused → Type 0
-LineSays p n k s at (Ok (Some (g, i))) = PassedLine p n k s at i g
+abbrev pub LineSays : (p n k : ℕ) → Bytes → ℕ → Result (Option (ArrayVec LineTerm × ℕ)) Refused → Type 0
+LineSays p n k s at (Ok (Some (g, i))) = PassedLine p n k s at i g.items
 LineSays p n k s at (Ok None) = Stops p n k (drop at s) (Ok tt)
 LineSays p n k s at (Err e) = Stops p n k (drop at s) (Err e)
 
--- The answer to the lines s after the basis line: the shape of the basis, the lines of which the arrays hold; or the refusal.
-abbrev pub LinesSays : (p n : ℕ) → Bytes → Result Shape Refused → (ts cs es : List ℕ) → Type 0
-LinesSays p n s (Ok shape) ts cs es = let b = basis_in shape ts cs es in Remaining p n (passed (basis_of b)) [] s × PaddedBasis b
-LinesSays p n s (Err e) ts cs es = Remaining p n (refused (number e.refusal) e.line) [] s
+-- The answer to the lines s after the basis line: they pass, and ls are the lines of the basis; or the refusal.
+abbrev pub LinesSays : (p n : ℕ) → Bytes → Result ⊤ Refused → ArrayVec (ArrayVec LineTerm) → Type 0
+LinesSays p n s (Ok _) ls = let b = record { p = p; n = n; lines = ls } in Remaining p n (passed (basis_of b)) [] s × PaddedBasis b
+LinesSays p n s (Err e) ls = Remaining p n (refused (number e.refusal) e.line) [] s
 
--- The answer to a text: the outcome of checks 2 to 11. If the text is refused, the basis is free.
-abbrev pub BasisSays : Bytes → Result Shape Refused → (ts cs es : List ℕ) → Type 0
-BasisSays s (Ok shape) ts cs es = let b = basis_in shape ts cs es in Checked s (passed (basis_of b)) × PaddedBasis b
-BasisSays s (Err e) ts cs es = Checked s (refused (number e.refusal) e.line)
+-- The answer to a text: the outcome of checks 2 to 11, and the basis b if it passes. If it is refused, b is free.
+abbrev pub BasisSays : Bytes → Result ⊤ Refused → StoredBasis → Type 0
+BasisSays s (Ok _) b = Checked s (passed (basis_of b)) × PaddedBasis b
+BasisSays s (Err e) b = Checked s (refused (number e.refusal) e.line)

@@ -1,16 +1,16 @@
 // The lines of a text in turn: checks 2 to 11.
-ghost use Rattle.std.specs.Prelude.{◌≤◌, length, drop};
-ghost use Rattle.monomial.specs.Sizes.{most_variables};
+ghost use Rattle.std.specs.Prelude.{◌≡◌, ◌≤◌, [], length, drop};
 ghost use Rattle.lines.specs.Sizes.{most_lines};
-ghost use Rattle.lines.specs.Stored.{Arrays};
 ghost use Rattle.checks.specs.Answers.{EndSays, LineSays, LinesSays, BasisSays};
 
 use crate::generator::check_generator;
 use crate::header::check_header;
 use answer::{Refusal, Refused, Verdict};
-use lines::Shape;
+use arrayvec::ArrayVec;
+use lines::StoredBasis;
 use lines::line::Generator;
-use lines::store::put_line;
+use lines::sizes::MAX_LINES;
+use monomial::count::Variables;
 use tabtext::record::{Kind, read_record};
 
 // The end line after k poly lines, after which the text goes on at `next`.
@@ -32,10 +32,10 @@ fn read_line(
     text: &[u8],
     at: usize,
     p: u16,
-    n: usize,
+    n: Variables,
     k: usize,
 ) -> Result<Option<(Generator, usize)>, Refused>
-    requires { (n ≤ most_variables) × (at ≤ length text.now) × (k ≤ most_lines) }
+    requires { (at ≤ length text.now) × (k ≤ most_lines) }
     ensures { LineSays p n k text.now at result }
 {
     let Some((record, next)) = read_record(text, at, n, k + 2) else {
@@ -57,42 +57,30 @@ fn read_line(
     }
 }
 
-// The lines after the basis line, which stand from `start` on: those that pass are stored.
+// The lines after the basis line, which stand from `start` on: those that pass are pushed to a list that is empty.
 fn read_lines(
     text: &[u8],
     start: usize,
     p: u16,
-    n: usize,
-    counts: &mut [usize],
-    coefficients: &mut [u16],
-    exponents: &mut [u8],
-) -> Result<Shape, Refused>
-    requires { (n ≤ most_variables) × (start ≤ length text.now) × Arrays counts.old coefficients.old exponents.old }
-    ensures arrays { Arrays counts.new coefficients.new exponents.new }
-    ensures lines { LinesSays p n (drop start text.now) result counts.new coefficients.new exponents.new }
+    n: Variables,
+    lines: &mut ArrayVec<Generator, MAX_LINES>,
+) -> Verdict
+    requires { (start ≤ length text.now) × (lines.old.items ≡ []) }
+    ensures { LinesSays p n (drop start text.now) result lines.new }
 {
-    let mut k: usize = 0;
     let mut at = start;
-    while let Some((g, next)) = read_line(text, at, p, n, k)? {
-        put_line(&mut *counts, &mut *coefficients, &mut *exponents, k, g);
-        k += 1;
+    while let Some((g, next)) = read_line(text, at, p, n, lines.len())? {
+        lines.push(g);
         at = next;
     }
-    Ok(Shape { p, n, lines: k })
+    Ok(())
 }
 
-// The shape of the basis that a text holds, or its refusal: checks 2 to 11.
-pub fn read_basis(
-    text: &[u8],
-    counts: &mut [usize],
-    coefficients: &mut [u16],
-    exponents: &mut [u8],
-) -> Result<Shape, Refused>
-    requires { Arrays counts.old coefficients.old exponents.old }
-    ensures arrays { Arrays counts.new coefficients.new exponents.new }
-    ensures basis { BasisSays text.now result counts.new coefficients.new exponents.new }
+// The basis that a text holds, or its refusal: checks 2 to 11.
+pub fn read_basis(text: &[u8], basis: &mut StoredBasis) -> Verdict
+    ensures { BasisSays text.now result basis.new }
 {
-    let Some((record, next)) = read_record(text, 0, 0, 1) else {
+    let Some((record, next)) = read_record(text, 0, Variables::new(0), 1) else {
         return Err(Refusal::BadLine.at(1));
     };
     let kind = record.kind;
@@ -100,13 +88,8 @@ pub fn read_basis(
         return Err(Refusal::BadLine.at(1));
     };
     check_header(text, h).map_err(|r| r.at(1))?;
-    read_lines(
-        text,
-        next,
-        h.p as u16,
-        h.n as usize,
-        &mut *counts,
-        &mut *coefficients,
-        &mut *exponents,
-    )
+    basis.p = h.p as u16;
+    basis.n = Variables::new(h.n as usize);
+    basis.lines.clear();
+    read_lines(text, next, basis.p, basis.n, &mut basis.lines)
 }

@@ -1,16 +1,15 @@
 // A poly line: its terms in turn, each checked and kept.
 ghost use Rattle.std.specs.Prelude.{◌≡◌, List, ◌≤◌, length, drop};
-ghost use Rattle.monomial.specs.Sizes.{most_variables};
 ghost use Rattle.monomial.specs.Represented.{row};
 ghost use Rattle.lines.specs.Terms.{Term, as_row};
-ghost use Rattle.lines.specs.Bases.{PaddedLine};
+ghost use Rattle.lines.specs.Bases.{Padded};
 ghost use Rattle.checks.specs.Answers.{Ahead, LaterSays, GeneratorSays};
 
 use crate::term::{check_first, check_next, monomial_of};
 use answer::Refusal;
-use lines::line::{Generator, empty, with_term};
+use lines::line::{Generator, LineTerm};
 use lines::sizes::MAX_LINES;
-use monomial::Monomial;
+use monomial::count::Variables;
 use residue::Residue;
 use tabtext::terms::{byte_is, read_term};
 
@@ -19,24 +18,27 @@ fn read_later(
     text: &[u8],
     start: usize,
     p: u16,
-    n: usize,
-    line: Generator,
-    m: Monomial,
+    n: Variables,
+    first: LineTerm,
 ) -> Result<Generator, Refusal>
-    requires { (n ≤ most_variables) × (start ≤ length text.now) × PaddedLine n line }
-    ensures { (left : List Term) (before : Term) → Ahead n (drop start text.now) left → as_row n before.1 ≡ row n m
-        → LaterSays p n line before left result }
+    requires { (start ≤ length text.now) × Padded n first.monomial }
+    ensures { (left : List Term) (before : Term) → Ahead n (drop start text.now) left → as_row n before.1 ≡ row n first.monomial
+        → LaterSays p n first before left result }
 {
-    let mut g = line;
-    let mut last = m;
+    let mut g = Generator::new();
+    g.push(first);
+    let mut last = first.monomial;
     let mut at = start;
     while byte_is(text, at, b'\t') {
         let Some((term, next)) = read_term(text, at + 1, n) else {
             return Err(Refusal::BadLine);
         };
-        check_next(term, g.terms, last, p, n)?;
+        check_next(term, g.len(), last, p, n)?;
         last = monomial_of(term.row, n);
-        g = with_term(g, Residue::of(term.coefficient, p), last);
+        g.push(LineTerm {
+            coefficient: Residue::of(term.coefficient, p),
+            monomial: last,
+        });
         at = next;
     }
     Ok(g)
@@ -47,10 +49,10 @@ pub fn check_generator(
     text: &[u8],
     start: usize,
     p: u16,
-    n: usize,
+    n: Variables,
     k: usize,
 ) -> Result<Generator, Refusal>
-    requires { (n ≤ most_variables) × (start ≤ length text.now) }
+    requires { start ≤ length text.now }
     ensures { (terms : List Term) → Ahead n (drop start text.now) terms → 1 ≤ length terms
         → GeneratorSays p n k terms result }
 {
@@ -61,7 +63,9 @@ pub fn check_generator(
         return Err(Refusal::BadLine);
     };
     check_first(term, p, n)?;
-    let m = monomial_of(term.row, n);
-    let first = with_term(empty(), Residue::of(term.coefficient, p), m);
-    read_later(text, next, p, n, first, m)
+    let first = LineTerm {
+        coefficient: Residue::of(term.coefficient, p),
+        monomial: monomial_of(term.row, n),
+    };
+    read_later(text, next, p, n, first)
 }

@@ -1,7 +1,7 @@
 // The checks of a term: 6, 7, and 9 or 8, with 10 before them.
 ghost use Rattle.std.specs.Prelude.{◌≡◌, true, ◌↔◌, ◌+◌, ◌≤◌, take};
 ghost use Rattle.lists.specs.Lists.{Each};
-ghost use Rattle.monomial.specs.Sizes.{most_variables, most_exponent};
+ghost use Rattle.monomial.specs.Sizes.{most_exponent};
 ghost use Rattle.monomial.specs.Represented.{row, monomial};
 ghost use Rattle.answer.specs.Outcomes.{pass};
 ghost use Rattle.answer.specs.Verdicts.{outcome};
@@ -10,33 +10,32 @@ ghost use Rattle.checks.specs.Checks.{check_term, check_first, check_next};
 
 use answer::{Check, Refusal};
 use lines::sizes::MAX_TERMS;
+use monomial::count::Variables;
 use monomial::{Exponent, MAX_EXPONENT, MAX_VARIABLES, Monomial};
 use std::cmp::Ordering;
 use tabtext::terms::RawTerm;
 
 // Whether no exponent is over 32.
-fn small_exponents(exponents: [u32; MAX_VARIABLES], n: usize) -> bool
-    requires { n ≤ most_variables }
+fn small_exponents(exponents: [u32; MAX_VARIABLES], n: Variables) -> bool
     ensures { (result ≡ true) ↔ Each (λ e. e ≤ most_exponent) (take n exponents) }
 {
-    exponents[..n].iter().all(|&e| e <= MAX_EXPONENT as u32)
+    exponents[..n.count()].iter().all(|&e| e <= MAX_EXPONENT as u32)
 }
 
 // The monomial with the exponents of a row.
-pub fn monomial_of(exponents: [u32; MAX_VARIABLES], n: usize) -> Monomial
-    requires { (n ≤ most_variables) × Each (λ e. e ≤ most_exponent) (take n exponents) }
+pub fn monomial_of(exponents: [u32; MAX_VARIABLES], n: Variables) -> Monomial
+    requires { Each (λ e. e ≤ most_exponent) (take n exponents) }
     ensures { result ≡ monomial n (as_row n (take n exponents)) }
 {
     let mut m = Monomial::one();
-    for i in 0..n {
+    for i in 0..n.count() {
         m.e[i] = Exponent(exponents[i] as u8);
     }
     m
 }
 
 // A term: 6, 7.
-fn check_term(term: RawTerm, p: u16, n: usize) -> Check
-    requires { n ≤ most_variables }
+fn check_term(term: RawTerm, p: u16, n: Variables) -> Check
     ensures { check_term p (term.coefficient, take n term.row) pass (outcome result) }
 {
     let coefficient = term.coefficient;
@@ -50,8 +49,7 @@ fn check_term(term: RawTerm, p: u16, n: usize) -> Check
 }
 
 // The first term of a line: 6, 7, 9.
-pub fn check_first(term: RawTerm, p: u16, n: usize) -> Check
-    requires { n ≤ most_variables }
+pub fn check_first(term: RawTerm, p: u16, n: Variables) -> Check
     ensures { check_first p (term.coefficient, take n term.row) pass (outcome result) }
 {
     check_term(term, p, n)?;
@@ -62,8 +60,7 @@ pub fn check_first(term: RawTerm, p: u16, n: usize) -> Check
 }
 
 // The term after the first j, of which the last has the monomial `before`: 10, 6, 7, 8.
-pub fn check_next(term: RawTerm, j: usize, before: Monomial, p: u16, n: usize) -> Check
-    requires { n ≤ most_variables }
+pub fn check_next(term: RawTerm, j: usize, before: Monomial, p: u16, n: Variables) -> Check
     ensures { (b : Term) → as_row n b.1 ≡ row n before → check_next p n (j + 1) b (term.coefficient, take n term.row) pass (outcome result) }
 {
     if MAX_TERMS <= j {

@@ -11,7 +11,7 @@ use Rattle.monomial.specs.declared.Monomial.{Monomial}
 use Rattle.answer.specs.Finished.{Finished}
 use Rattle.answer.specs.declared.Refused.{Refused}
 use Rattle.groebner.specs.Lines.{Line}
-use Rattle.lines.specs.Bases.{StoredBasis}
+use Rattle.lines.specs.declared.StoredBasis.{StoredBasis}
 use Rattle.staircase.specs.StoredLines.{stored_lines}
 use Rattle.multiplication.specs.Rows.{most_cells, tables_of}
 use Rattle.acceptance.specs.Answers.{Convertible}

@@ -15,12 +15,12 @@ use Rattle.monomial.specs.Represented.{row}
 use Rattle.groebner.specs.Polynomials.{Poly, Polynomial, scale, shift}
 use Rattle.groebner.specs.Lines.{Line, polynomial}
 use Rattle.groebner.specs.Remainders.{Remainder}
-use Rattle.lines.specs.LineTerms.{terms_in}
-use Rattle.lines.specs.Bases.{StoredBasis}
-use Rattle.lines.specs.declared.line.Generator.{Generator}
+use Rattle.lines.specs.LineTerms.{terms_in, monomial_at}
+use Rattle.lines.specs.declared.line.LineTerm.{LineTerm}
+use Rattle.lines.specs.declared.StoredBasis.{StoredBasis}
 use Rattle.staircase.specs.TermLines.{line_of}
 use Rattle.staircase.specs.StoredLines.{stored_lines}
-use Rattle.staircase.specs.Sound.{monomial_at, generator_at, Sound}
+use Rattle.staircase.specs.Sound.{generator_at, Sound}
 use Rattle.division.specs.GrevlexPlace.{place, most_degree}
 use Rattle.division.specs.CoefficientArray.{HoldsPolynomial, HoldsZero, ZeroAbove, Work}
 
@@ -32,12 +32,12 @@ lead_at b k = row b.n (monomial_at (generator_at b k) 0)
 abbrev pub line_at : (b : StoredBasis) → 1 < b.p → ℕ → Line (ZMod b.p) (Row b.n)
 line_at b h k = line_of b.p h b.n (terms_in b.n (generator_at b k))
 
--- c·u·g, for the line g that a generator makes.
-abbrev pub product_of : (p n : ℕ) → Generator → ℕ → Row n → 1 < p → Poly (ZMod p) (Row n)
+-- c·u·g, for the line that the terms g make.
+abbrev pub product_of : (p n : ℕ) → List LineTerm → ℕ → Row n → 1 < p → Poly (ZMod p) (Row n)
 product_of p n g c u h = scale (modulo p h) (residue p h c) (shift (monomials n) u (polynomial (modulo p h) (line_of p h n (terms_in n g))))
 
 -- The same for m = u·lead g.
-unfoldable pub multiple_of : (p n : ℕ) → Generator → ℕ → Row n → 1 < p → Poly (ZMod p) (Row n)
+unfoldable pub multiple_of : (p n : ℕ) → List LineTerm → ℕ → Row n → 1 < p → Poly (ZMod p) (Row n)
 unfolding residue line_of terms_in monomial_at quotient scale polynomial
 multiple_of p n g c m = product_of p n g c (quotient n m (row n (monomial_at g 0)))
 

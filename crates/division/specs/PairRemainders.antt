@@ -10,7 +10,7 @@
 --   EarlierSays b j w' fails   whether it has for line j and an earlier line i; likewise
 --   FailingLine b h k          check 15 speaks of line k of the text
 --   FirstFailing b r           r is the number of the first line of which it speaks, if it speaks of one
-use Rattle.std.specs.Prelude.{ℕ, ◌≤◌, ◌<◌, ◌≡◌, Bool, true, false, Option, List, [], ◌++◌, ◌↔◌}
+use Rattle.std.specs.Prelude.{ℕ, ◌≤◌, ◌<◌, ◌≡◌, Bool, true, false, Option, List, [], ◌++◌, length, ◌↔◌}
 use Rattle.residue.specs.Modular.{negation_mod}
 use Rattle.residue.specs.Field.{ZMod, modulo}
 use Rattle.monomial.specs.Rows.{Row, degree}
@@ -19,7 +19,7 @@ use Rattle.monomial.specs.Ordering.{monomials, Grevlex}
 use Rattle.groebner.specs.Polynomials.{Poly}
 use Rattle.groebner.specs.Remainders.{Remainder}
 use Rattle.groebner.specs.Bases.{SPolynomial}
-use Rattle.lines.specs.Bases.{StoredBasis}
+use Rattle.lines.specs.declared.StoredBasis.{StoredBasis}
 use Rattle.staircase.specs.StoredLines.{stored_lines}
 use Rattle.staircase.specs.Sound.{Sound}
 use Rattle.staircase.specs.Conditions.{Failing}
@@ -34,7 +34,7 @@ leads_lcm b i j = lcm b.n (lead_at b i) (lead_at b j)
 
 -- Its degree is at most the largest degree.
 abbrev pub LowPairs : StoredBasis → Type 0
-LowPairs b = (i j : ℕ) → i < b.lines → j < b.lines → degree b.n (leads_lcm b i j) ≤ most_degree
+LowPairs b = (i j : ℕ) → i < length b.lines.items → j < length b.lines.items → degree b.n (leads_lcm b i j) ≤ most_degree
 
 -- What check 15 asks of a basis.
 pub record Pairable (b : StoredBasis) : Type 0 where
@@ -51,8 +51,8 @@ pub record PairableOn (b : StoredBasis) (w : List ℕ) : Type 0 where
 pub record PairOf (b : StoredBasis) (w : List ℕ) (i j : ℕ) (m : Row b.n) : Type 0 where
   pub sound : Sound b
   pub work : Work b.p b.n w
-  pub left : i < b.lines
-  pub right : j < b.lines
+  pub left : i < length b.lines.items
+  pub right : j < length b.lines.items
   pub common : m ≡ leads_lcm b i j
   pub low : degree b.n m ≤ most_degree
 

@@ -6,25 +6,24 @@
 //   sweep                   all monomials in turn, from the greatest down
 ghost use Rattle.std.specs.Prelude.{◌≡◌, true, [], ◌∷◌, ◌≤◌, position};
 ghost use Rattle.residue.specs.Field.{residue};
-ghost use Rattle.monomial.specs.Sizes.{most_variables};
 ghost use Rattle.monomial.specs.Rows.{product};
 ghost use Rattle.monomial.specs.Quotients.{divides};
 ghost use Rattle.monomial.specs.Represented.{row};
-ghost use Rattle.lines.specs.Bases.{basis_in, Stored};
-ghost use Rattle.staircase.specs.Sound.{monomial_at, SoundLine};
+ghost use Rattle.lines.specs.LineTerms.{monomial_at};
+ghost use Rattle.staircase.specs.Sound.{SoundLine};
 ghost use Rattle.division.specs.CoefficientArray.{Addend, AddsPolynomial};
 ghost use Rattle.division.specs.Clearing.{product_of, multiple_of, Dividend, Sweeps};
 
 use crate::grevlex::{before, place};
-use lines::Shape;
-use lines::line::Generator;
-use lines::store::line_at;
+use lines::StoredBasis;
+use lines::line::{LineTerm, lead};
 use monomial::Monomial;
+use monomial::count::Variables;
 use residue::Residue;
 use staircase::leads::leads_of;
 
 // c·m is added.
-fn add_term(work: &mut [u16], c: Residue, m: Monomial, p: u16, n: usize)
+fn add_term(work: &mut [u16], c: Residue, m: Monomial, p: u16, n: Variables)
     requires { Addend p n work.old c.0 (row n m) }
     ensures { AddsPolynomial p n work.old work.new (λ h. (residue p h c.0, row n m) ∷ []) }
 {
@@ -34,29 +33,26 @@ fn add_term(work: &mut [u16], c: Residue, m: Monomial, p: u16, n: usize)
 }
 
 // c·u·g is added.
-fn add_product(work: &mut [u16], c: Residue, u: Monomial, g: Generator, p: u16, n: usize)
-    requires { SoundLine p n g × Addend p n work.old c.0 (product n (row n u) (row n (monomial_at g 0))) }
-    ensures { AddsPolynomial p n work.old work.new (product_of p n g c.0 (row n u)) }
+fn add_product(work: &mut [u16], c: Residue, u: Monomial, g: &[LineTerm], p: u16, n: Variables)
+    requires { SoundLine p n g.now × Addend p n work.old c.0 (product n (row n u) (row n (monomial_at g.now 0))) }
+    ensures { AddsPolynomial p n work.old work.new (product_of p n g.now c.0 (row n u)) }
 {
-    for k in 0..g.terms {
-        let d = g.coefficients[k];
-        let m = g.monomials[k];
-        add_term(work, c.mul(d, p), u.product(m, n), p, n);
+    for t in g {
+        add_term(work, c.mul(t.coefficient, p), u.product(t.monomial, n), p, n);
     }
 }
 
 // c·u·g is added, for m = u·lead g.
-pub fn add_line(work: &mut [u16], c: Residue, m: Monomial, g: Generator, p: u16, n: usize)
-    requires { SoundLine p n g × Addend p n work.old c.0 (row n m) × (divides n (row n (monomial_at g 0)) (row n m) ≡ true) }
-    ensures { AddsPolynomial p n work.old work.new (multiple_of p n g c.0 (row n m)) }
+pub fn add_line(work: &mut [u16], c: Residue, m: Monomial, g: &[LineTerm], p: u16, n: Variables)
+    requires { SoundLine p n g.now × Addend p n work.old c.0 (row n m) × (divides n (row n (monomial_at g.now 0)) (row n m) ≡ true) }
+    ensures { AddsPolynomial p n work.old work.new (multiple_of p n g.now c.0 (row n m)) }
 {
-    let u = m.quotient(g.monomials[0], n);
+    let u = m.quotient(lead(g), n);
     add_product(work, c, u, g, p, n);
 }
 
 // The place of the earliest leading monomial that divides m.
-fn earliest(leads: &[Monomial], m: Monomial, n: usize) -> Option<usize>
-    requires { n ≤ most_variables }
+fn earliest(leads: &[Monomial], m: Monomial, n: Variables) -> Option<usize>
     ensures { result ≡ position (λ d. divides n (row n d) (row n m)) leads.now }
 {
     leads.iter().position(|d| d.divides(m, n))
@@ -64,28 +60,20 @@ fn earliest(leads: &[Monomial], m: Monomial, n: usize) -> Option<usize>
 
 // Whether the remainder of what the array holds is zero: each monomial in turn, from the greatest down, is cleared by the earliest line that divides it.
 // The array is zero at top and above it.
-pub fn sweep(
-    work: &mut [u16],
-    counts: &[usize],
-    coefficients: &[u16],
-    exponents: &[u8],
-    shape: Shape,
-    top: Monomial,
-) -> bool
-    requires { Stored shape counts.now coefficients.now exponents.now (λ b. Dividend b work.old (row b.n top)) }
-    ensures { Sweeps (basis_in shape counts.now coefficients.now exponents.now) work.old work.new result }
+pub fn sweep(work: &mut [u16], basis: &StoredBasis, top: Monomial) -> bool
+    requires { Dividend basis.now work.old (row basis.now.n top) }
+    ensures { Sweeps basis.now work.old work.new result }
 {
-    let leads = leads_of(exponents, shape.lines);
+    let leads = leads_of(basis);
     let mut m = top;
-    for at in (0..place(top, shape.n)).rev() {
-        m = before(m, shape.n);
+    for at in (0..place(top, basis.n)).rev() {
+        m = before(m, basis.n);
         let c = Residue(work[at]);
         if !c.is_zero() {
-            let Some(k) = earliest(&leads, m, shape.n) else {
+            let Some(k) = earliest(&leads, m, basis.n) else {
                 return false;
             };
-            let g = line_at(counts, coefficients, exponents, k);
-            add_line(work, c.neg(shape.p), m, g, shape.p, shape.n);
+            add_line(work, c.neg(basis.p), m, &basis.lines[k], basis.p, basis.n);
         }
     }
     true

@@ -5,6 +5,7 @@ ghost use Rattle.monomial.specs.Represented.{row};
 ghost use Rattle.division.specs.GrevlexPlace.{monomials_below, place, most_degree, space, HasPlace, PlaceIs};
 
 use lines::sizes::MAX_STANDARD;
+use monomial::count::Variables;
 use monomial::variable::first_variable;
 use monomial::{Exponent, MAX_VARIABLES, Monomial};
 
@@ -34,13 +35,13 @@ fn monomials_below(k: usize, d: usize) -> usize
 }
 
 // The sum over the first i variables, for each i from 1 to n, of C(s + i - 1, i) for the sum s of their exponents.
-pub fn place(m: Monomial, n: usize) -> usize
+pub fn place(m: Monomial, n: Variables) -> usize
     requires { HasPlace n (row n m) }
     ensures { PlaceIs n (row n m) result }
 {
     let mut at = 0;
     let mut sum = 0;
-    for (i, x) in m.e[..n].iter().enumerate() {
+    for (i, x) in m.e[..n.count()].iter().enumerate() {
         sum += usize::from(x.0);
         at += monomials_below(i + 1, sum);
     }
@@ -48,14 +49,14 @@ pub fn place(m: Monomial, n: usize) -> usize
 }
 
 // The lowest sum of first exponents that is not 0 falls by 1, and all below it take its new value.
-pub fn before(mut m: Monomial, n: usize) -> Monomial
+pub fn before(mut m: Monomial, n: Variables) -> Monomial
     requires { HasPlace n (row n m) × (0 < place n (row n m)) }
     ensures { suc (place n (row n result)) ≡ place n (row n m) }
 {
     let i = first_variable(m, n).unwrap();
     let x = m.e[i].0 - 1;
     m.e[i] = Exponent(0);
-    if i + 1 < n {
+    if i + 1 < n.count() {
         m.e[i + 1].0 += 1;
     }
     m.e[0] = Exponent(x);

@@ -21,7 +21,7 @@ use Rattle.lines.specs.Sizes.{most_standard}
 use Rattle.staircase.specs.Listed.{listed}
 use Rattle.multiplication.specs.Rows.{cell_of, AllBelow, Tables}
 use Rattle.fglm.specs.Found.{found_lines, found_standard, Printable}
-use Rattle.fglm.specs.Lex.{LexBasis}
+use Rattle.fglm.specs.declared.lex_basis.LexBasis.{LexBasis}
 
 -- The lines G are a Groebner basis in grevlex, no term of one a multiple of another's leading monomial; l lists its irreducible monomials.
 pub record Enumerable (p : ℕ) (prime : Prime p) (n : ℕ) (l : List Monomial) (t : Tables) (G : List (Line (ZMod p) (Row n))) : Type 0 where
@@ -39,7 +39,7 @@ pub record EnumerationInput (t : Reciprocals) (n : ℕ) (s : List ℕ) (l : List
   pub below : AllBelow t.field.p tables
   pub lines : (prime : Prime t.field.p) → (G : List (Line (ZMod t.field.p) (Row n))) × Enumerable t.field.p prime n l tables G
 
--- What the enumeration gives, whatever such lines there are: the outcome of the theory, in the arrays of r.
+-- What the enumeration gives, whatever such lines there are: the outcome of the theory, in r.
 pub record Enumerated (t : Reciprocals) (n : ℕ) (s : List ℕ) (l : List Monomial) (tables : Tables) (r : LexBasis) : Type 0 where
   pub printable : Printable t.field.p n r
   pub outcome : (prime : Prime t.field.p) (G : List (Line (ZMod t.field.p) (Row n))) → Enumerable t.field.p prime n l tables G

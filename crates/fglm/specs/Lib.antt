@@ -3,7 +3,6 @@
 --   RowState       the rows that the code holds, as lists of residues
 --   Elimination    row elimination over these rows
 --   Steps          what the steps of the elimination give
---   Lex            a lex basis of the code
 --   Found          the lines and the standard monomials of a lex basis
 --   WrittenLines   the line of a monomial that depends on standard monomials
 --   ImageRows      the row of a monomial, from those of the standard monomials
@@ -11,7 +10,6 @@
 pub mod RowState
 pub mod Elimination
 pub mod Steps
-pub mod Lex
 pub mod Found
 pub mod WrittenLines
 pub mod ImageRows

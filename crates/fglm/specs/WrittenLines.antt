@@ -16,7 +16,7 @@ use Rattle.groebner.specs.OrderedTails.{ordered_line}
 use Rattle.lines.specs.Sizes.{most_standard}
 use Rattle.lines.specs.LineTerms.{terms_in}
 use Rattle.lines.specs.Bases.{Padded}
-use Rattle.lines.specs.declared.line.Generator.{Generator}
+use Rattle.lines.specs.declared.line.LineTerm.{LineTerm}
 use Rattle.staircase.specs.TermLines.{line_of}
 use Rattle.staircase.specs.Listed.{listed}
 use Rattle.coordinates.specs.Vectors.{Below, vector}
@@ -36,7 +36,7 @@ pub record LineInput (p n : ℕ) (m : Monomial) (c : Coordinates) (l : List Mono
   pub all_padded : Each (Padded n) l
 
 -- r is the line m - Σ c_k·l_k, its tail in the order of the monomials l.
-pub record WrittenLine (p n : ℕ) (m : Monomial) (c : Coordinates) (l : List Monomial) (r : Generator) : Type 0 where
+pub record WrittenLine (p n : ℕ) (m : Monomial) (c : Coordinates) (l : List Monomial) (r : List LineTerm) : Type 0 where
   pub printable : PrintableLine p n r
   pub line : (h : 1 < p) (field : Field (modulo p h)) → Once (listed n l)
       → line_of p h n (terms_in n r) ≡ ordered_line field (monomials n) (listed n l) (row n m, negate (modulo p h) (combined p h n l c))

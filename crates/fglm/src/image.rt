@@ -1,6 +1,5 @@
 // The row of a monomial, from the rows of the standard monomials found before.
 ghost use Rattle.std.specs.Prelude.{◌≤◌, length};
-ghost use Rattle.monomial.specs.Sizes.{most_variables};
 ghost use Rattle.lines.specs.Sizes.{most_standard};
 ghost use Rattle.multiplication.specs.Rows.{tables_of};
 ghost use Rattle.fglm.specs.ImageRows.{OneRow, ImageInput, ImageRow};
@@ -9,6 +8,7 @@ use coordinates::Coordinates;
 use coordinates::rows::row_at;
 use lines::sizes::MAX_STANDARD;
 use monomial::Monomial;
+use monomial::count::Variables;
 use monomial::rank::{rank, rank_place};
 use monomial::variable::{first_variable, over_variable};
 use multiplication::rows::times_variable;
@@ -19,8 +19,8 @@ use staircase::place::place_of;
 pub const MAX_IMAGES: usize = MAX_STANDARD * MAX_STANDARD;
 
 // The row of 1: zero where 1 is not listed.
-fn one_row(irreducibles: &[Monomial], n: usize) -> Coordinates
-    requires { (n ≤ most_variables) × (length irreducibles.now ≤ most_standard) }
+fn one_row(irreducibles: &[Monomial], n: Variables) -> Coordinates
+    requires { length irreducibles.now ≤ most_standard }
     ensures { OneRow n irreducibles.now result }
 {
     match place_of(irreducibles, Monomial::one(), n) {
@@ -38,7 +38,7 @@ pub fn image_of(
     standard: &[Monomial],
     irreducibles: &[Monomial],
     field: PrimeField,
-    n: usize,
+    n: Variables,
 ) -> Coordinates
     requires { ImageInput field.p n m cells.now images.now ranks.now standard.now irreducibles.now }
     ensures { ImageRow field.p n m images.now standard.now (tables_of cells.now) irreducibles.now result }

@@ -1,30 +1,49 @@
 -- Inner contracts. The terms of lines of the code.
---   exponents_of n m   the exponents of a monomial in n variables
---   terms_of n cs ms   coefficients and monomials, as terms
---   terms_in n g       the terms of a line of a basis
---   Monic ts           the first coefficient of a poly line is 1
-use Rattle.std.specs.Prelude.{ℕ, List, [], ◌∷◌, map, ◌≡◌, take}
-use Rattle.residue.specs.declared.Residue.{Residue}
+--   exponents_of n m      the exponents of a monomial in n variables
+--   term_of n t           a term of a line, as numbers
+--   terms_in n g          the terms of a line of a basis
+--   terms_of_lines n ls   those of each line of a list
+--   coefficient_at g k    the coefficient of term k of a line, from 0
+--   monomial_at g k       its monomial
+--   Monic ts              the first coefficient of a poly line is 1
+use Rattle.std.specs.Prelude.{ℕ, List, [], ◌∷◌, map, ◌≡◌, take, get_or}
+use Rattle.arrayvec.specs.ArrayVec.{ArrayVec}
+use Rattle.monomial.specs.Sizes.{most_variables}
+use Rattle.monomial.specs.Rows.{one}
+use Rattle.monomial.specs.Represented.{monomial}
 use Rattle.monomial.specs.declared.Exponent.{Exponent}
 use Rattle.monomial.specs.declared.Monomial.{Monomial}
 use Rattle.lines.specs.Terms.{Term}
-use Rattle.lines.specs.declared.line.Generator.{Generator}
+use Rattle.lines.specs.declared.line.LineTerm.{LineTerm}
 
 -- The first n exponents of a monomial, as numbers.
 unfoldable pub exponents_of : ℕ → Monomial → List ℕ
 exponents_of n m = take n (map (λ (x : Exponent). x.0) m.e)
 
--- Terms from coefficients and monomials.
-unfoldable pub terms_of : ℕ → List Residue → List Monomial → List Term
+-- A term of a line, as numbers.
+unfoldable pub term_of : ℕ → LineTerm → Term
 unfolding exponents_of
-terms_of n [] ms = []
-terms_of n (c ∷ cs) [] = []
-terms_of n (c ∷ cs) (m ∷ ms) = (c.0, exponents_of n m) ∷ terms_of n cs ms
+term_of n t = (t.coefficient.0, exponents_of n t.monomial)
 
--- The terms of a line of a basis: the first of its arrays.
-unfoldable pub terms_in : ℕ → Generator → List Term
-unfolding terms_of
-terms_in n g = take g.terms (terms_of n g.coefficients g.monomials)
+-- The terms of a line of a basis.
+unfoldable pub terms_in : ℕ → List LineTerm → List Term
+unfolding term_of
+terms_in n g = map (term_of n) g
+
+-- Those of each line of a list.
+unfoldable pub terms_of_lines : ℕ → List (ArrayVec LineTerm) → List (List Term)
+unfolding terms_in
+terms_of_lines n ls = map (λ g. terms_in n g.items) ls
+
+-- The coefficient of term k of a line, from 0.
+unfoldable pub coefficient_at : List LineTerm → ℕ → ℕ
+unfolding monomial one
+coefficient_at g k = (get_or g k (record { coefficient = record { 0 = 0 }; monomial = monomial most_variables (one most_variables) })).coefficient.0
+
+-- Its monomial.
+unfoldable pub monomial_at : List LineTerm → ℕ → Monomial
+unfolding monomial one
+monomial_at g k = (get_or g k (record { coefficient = record { 0 = 0 }; monomial = monomial most_variables (one most_variables) })).monomial
 
 -- The first coefficient is 1, as 9 asks.
 abbrev pub Monic : List Term → Type 0

@@ -1,18 +1,21 @@
-// A basis in memory: its lines, in arrays that are lent.
+// A basis in memory: its modulus, its number of variables, and its lines.
 //
 //   sizes   the sizes of a basis
-//   line    a line
-//   store   the lines of a basis, stored in three arrays
+//   line    a line and its terms
 #![tactic(auto)]
+
+use crate::line::Generator;
+use crate::sizes::MAX_LINES;
+use arrayvec::ArrayVec;
+use monomial::count::Variables;
 
 pub mod line;
 pub mod sizes;
-pub mod store;
 
-// The modulus, the number of variables, and the number of lines of a basis. The lines stand in lent arrays.
-#[derive(Clone, Copy)]
-pub struct Shape {
+// The modulus, the number of variables, and the lines of a basis.
+#[derive(Default, Drop)]
+pub struct StoredBasis {
     pub p: u16,
-    pub n: usize,
-    pub lines: usize,
+    pub n: Variables,
+    pub lines: ArrayVec<Generator, MAX_LINES>,
 }

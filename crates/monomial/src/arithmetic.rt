@@ -6,6 +6,7 @@ ghost use Rattle.monomial.specs.Quotients.{quotient, lcm};
 ghost use Rattle.monomial.specs.Represented.{row, monomial, most_entry};
 ghost use Rattle.monomial.specs.Combined.{Combines, Combined};
 
+use crate::count::Variables;
 use crate::{Exponent, MAX_VARIABLES, Monomial};
 
 impl Exponent {
@@ -47,39 +48,37 @@ impl Monomial {
     fn combined<F: Fn(Exponent, Exponent) -> Exponent>(
         self,
         other: Monomial,
-        n: usize,
+        n: Variables,
         f: F,
     ) -> Monomial
-        requires variables { n ≤ most_variables }
         requires combines { Combines n (λ x y. F.pre f x y) self other }
         ensures { (a : Row n) → Combined n (λ x y z. F.post f x y z) self other a → result ≡ monomial n a }
     {
         let mut m = Monomial::one();
-        for i in 0..n {
+        for i in 0..n.count() {
             m.e[i] = f(self.exponent(i), other.exponent(i));
         }
         m
     }
 
     // Exponents are added. Each sum fits an exponent.
-    pub fn product(self, other: Monomial, n: usize) -> Monomial
-        requires { (n ≤ most_variables) × ((i : ℕ) → i < n → exponent n (row n self) i + exponent n (row n other) i ≤ most_entry) }
+    pub fn product(self, other: Monomial, n: Variables) -> Monomial
+        requires { ((i : ℕ) → i < n → exponent n (row n self) i + exponent n (row n other) i ≤ most_entry) }
         ensures { result ≡ monomial n (product n (row n self) (row n other)) }
     {
         self.combined(other, n, Exponent::add)
     }
 
     // Exponents are subtracted. The divisor divides self.
-    pub fn quotient(self, other: Monomial, n: usize) -> Monomial
-        requires { (n ≤ most_variables) × ((i : ℕ) → i < n → exponent n (row n other) i ≤ exponent n (row n self) i) }
+    pub fn quotient(self, other: Monomial, n: Variables) -> Monomial
+        requires { ((i : ℕ) → i < n → exponent n (row n other) i ≤ exponent n (row n self) i) }
         ensures { result ≡ monomial n (quotient n (row n self) (row n other)) }
     {
         self.combined(other, n, Exponent::sub)
     }
 
     // The larger of each two exponents.
-    pub fn lcm(self, other: Monomial, n: usize) -> Monomial
-        requires { n ≤ most_variables }
+    pub fn lcm(self, other: Monomial, n: Variables) -> Monomial
         ensures { result ≡ monomial n (lcm n (row n self) (row n other)) }
     {
         self.combined(other, n, Exponent::larger)

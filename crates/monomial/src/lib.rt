@@ -15,10 +15,12 @@ ghost use Rattle.monomial.specs.Rows.{exponent};
 ghost use Rattle.monomial.specs.Represented.{row};
 
 pub mod arithmetic;
+pub mod count;
 pub mod divisibility;
 pub mod order;
 pub mod rank;
 pub mod variable;
+
 
 // The largest number of variables, which the definitions have as most_variables.
 pub const MAX_VARIABLES: usize = 4;

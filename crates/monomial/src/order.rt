@@ -5,6 +5,7 @@ ghost use Rattle.monomial.specs.Rows.{exponent, degree};
 ghost use Rattle.monomial.specs.Orders.{compared, lex, variables, backwards, grevlex};
 ghost use Rattle.monomial.specs.Represented.{row};
 
+use crate::count::Variables;
 use crate::{MAX_VARIABLES, Monomial};
 use std::cmp::Ordering;
 
@@ -33,11 +34,10 @@ impl Monomial {
     }
 
     // The last variable in which the exponents differ decides.
-    fn compare_backwards(self, other: Monomial, n: usize) -> Ordering
-        requires { n ≤ most_variables }
+    fn compare_backwards(self, other: Monomial, n: Variables) -> Ordering
         ensures { result ≡ lex n (backwards n) (row n self) (row n other) }
     {
-        for i in (0..n).rev() {
+        for i in (0..n.count()).rev() {
             let c = self.compare_at(other, i);
             match c {
                 Ordering::Equal => {}
@@ -50,20 +50,18 @@ impl Monomial {
     }
 
     // The total degree.
-    pub fn degree(self, n: usize) -> u32
-        requires { n ≤ most_variables }
+    pub fn degree(self, n: Variables) -> u32
         ensures { result ≡ degree n (row n self) }
     {
         let mut d: u32 = 0;
-        for i in 0..n {
+        for i in 0..n.count() {
             d += self.exponent(i).0 as u32;
         }
         d
     }
 
     // Grevlex: the degrees decide; at equal degree the last variable in which the exponents differ, where the smaller exponent is the greater monomial.
-    pub fn compare_grevlex(self, other: Monomial, n: usize) -> Ordering
-        requires { n ≤ most_variables }
+    pub fn compare_grevlex(self, other: Monomial, n: Variables) -> Ordering
         ensures { result ≡ grevlex n (row n self) (row n other) }
     {
         self.degree(n)

@@ -6,6 +6,7 @@ ghost use Rattle.monomial.specs.Quotients.{quotient, variable as x};
 ghost use Rattle.monomial.specs.Represented.{row};
 ghost use Rattle.monomial.specs.FirstVariable.{FirstVariable};
 
+use crate::count::Variables;
 use crate::{Exponent, Monomial};
 
 // Variable i.
@@ -19,16 +20,15 @@ pub fn variable(i: usize) -> Monomial
 }
 
 // The first variable that divides m, if m is not 1.
-pub fn first_variable(m: Monomial, n: usize) -> Option<usize>
-    requires { n ≤ most_variables }
+pub fn first_variable(m: Monomial, n: Variables) -> Option<usize>
     ensures { FirstVariable n (row n m) result }
 {
-    m.e[..n].iter().position(|e| e.0 != 0)
+    m.e[..n.count()].iter().position(|e| e.0 != 0)
 }
 
 // m / x_i, for x_i that divides m.
-pub fn over_variable(m: Monomial, i: usize, n: usize) -> Monomial
-    requires { (n ≤ most_variables) × (i < n) × (0 < exponent n (row n m) i) }
+pub fn over_variable(m: Monomial, i: usize, n: Variables) -> Monomial
+    requires { (i < n) × (0 < exponent n (row n m) i) }
     ensures { row n result ≡ quotient n (row n m) (x n i) }
 {
     m.quotient(variable(i), n)

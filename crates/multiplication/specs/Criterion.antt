@@ -8,7 +8,7 @@ use Rattle.groebner.specs.Lines.{Lines}
 use Rattle.groebner.specs.Bases.{Groebner}
 use Rattle.groebner.specs.Criteria.{Clear, Buchberger}
 use Rattle.groebner.specs.Standard.{ZeroDimensional}
-use Rattle.lines.specs.Bases.{StoredBasis}
+use Rattle.lines.specs.declared.StoredBasis.{StoredBasis}
 use Rattle.staircase.specs.StoredLines.{stored_lines}
 use Rattle.staircase.specs.Sound.{Sound}
 use Rattle.staircase.specs.Listed.{ListsIrreducibles}

@@ -8,7 +8,7 @@ use Rattle.monomial.specs.Rows.{one}
 use Rattle.monomial.specs.Ordering.{Grevlex}
 use Rattle.groebner.specs.Criteria.{Low}
 use Rattle.groebner.specs.MultiplicationRows.{Filled}
-use Rattle.lines.specs.Bases.{StoredBasis}
+use Rattle.lines.specs.declared.StoredBasis.{StoredBasis}
 use Rattle.staircase.specs.StoredLines.{stored_lines}
 use Rattle.staircase.specs.Sound.{Sound}
 use Rattle.staircase.specs.Listed.{listed, ListsIrreducibles}

@@ -9,7 +9,7 @@ use Rattle.monomial.specs.Ordering.{monomials}
 use Rattle.monomial.specs.Ranks.{RanksOf}
 use Rattle.groebner.specs.Polynomials.{coef}
 use Rattle.lines.specs.LineTerms.{terms_in}
-use Rattle.lines.specs.declared.line.Generator.{Generator}
+use Rattle.lines.specs.declared.line.LineTerm.{LineTerm}
 use Rattle.staircase.specs.TermLines.{line_of}
 use Rattle.staircase.specs.Listed.{listed, listed_at, Distinct}
 use Rattle.monomial.specs.declared.Monomial.{Monomial}
@@ -23,7 +23,7 @@ pub record Subtracted (p : ℕ) (r : Coordinates) (c : ℕ) (at : Option ℕ) (a
   pub elsewhere : (k : ℕ) → ¬ (at ≡ Some k) → coordinate a k ≡ coordinate r k
 
 -- r has the coordinates of minus the tail of the line g.
-pub record TailRow (p n : ℕ) (g : Generator) (l : List Monomial) (r : Coordinates) : Type 0 where
+pub record TailRow (p n : ℕ) (g : List LineTerm) (l : List Monomial) (r : Coordinates) : Type 0 where
   pub below : Below p r
   pub coefficients : (h : 1 < p) (k : ℕ) → k < length l → coordinates_of p h r k ≡ (modulo p h).neg (coef (modulo p h) (monomials n) (line_of p h n (terms_in n g)).1 (listed_at n l k))
 

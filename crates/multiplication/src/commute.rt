@@ -9,6 +9,7 @@ ghost use Rattle.multiplication.specs.Rows.{tables_of, Cells, cell_of, CommuteAt
 use crate::rows::{row_start, times_variable};
 use coordinates::rows::row_at;
 use coordinates::vectors::same_coordinates;
+use monomial::count::Variables;
 use residue::field::PrimeField;
 
 // Whether x_i·(typeof.x_j.B_s) and x_j·(typeof.x_i.B_s) have the same coordinates.
@@ -55,11 +56,11 @@ fn commute_before(cells: &[u16], j: usize, count: usize, field: PrimeField) -> b
 }
 
 // Whether all rows commute.
-pub fn commute(cells: &[u16], n: usize, count: usize, field: PrimeField) -> bool
-    requires { Cells field.p cells.now × (n ≤ most_variables) × (count ≤ most_standard) }
+pub fn commute(cells: &[u16], n: Variables, count: usize, field: PrimeField) -> bool
+    requires { Cells field.p cells.now × (count ≤ most_standard) }
     ensures { (h : 1 < field.p) → (result ≡ true) ↔ RowsCommute (modulo field.p h) n count (cell_of field.p h (tables_of cells.now)) }
 {
-    for j in 0..n {
+    for j in 0..n.count() {
         if !commute_before(cells, j, count, field) {
             return false;
         }

@@ -1,12 +1,11 @@
 // Check 15: whether the lines of a basis are a Groebner basis, by the rows of the products typeof.x_i.B_s.
 ghost use Rattle.std.specs.Prelude.{◌≡◌, length};
-ghost use Rattle.lines.specs.Bases.{basis_in, Stored};
 ghost use Rattle.multiplication.specs.Rows.{most_cells, NoRows, tables_of};
 ghost use Rattle.multiplication.specs.Criterion.{Candidate, Acceptance};
 
 use crate::commute::commute;
 use crate::fill::fill;
-use lines::Shape;
+use lines::StoredBasis;
 use monomial::Monomial;
 use residue::field::PrimeField;
 
@@ -14,24 +13,13 @@ use residue::field::PrimeField;
 // As many lines as variables have coprime leading monomials, and are a Groebner basis.
 pub fn is_groebner(
     cells: &mut [u16],
-    counts: &[usize],
-    coefficients: &[u16],
-    exponents: &[u8],
-    shape: Shape,
+    basis: &StoredBasis,
     irreducibles: &[Monomial],
 ) -> bool
-    requires { NoRows cells.old × Stored shape counts.now coefficients.now exponents.now (λ b. Candidate b irreducibles.now) }
-    ensures { (length cells.new ≡ most_cells)
-        × Acceptance (basis_in shape counts.now coefficients.now exponents.now) irreducibles.now result (tables_of cells.new) }
+    requires { NoRows cells.old × Candidate basis.now irreducibles.now }
+    ensures { (length cells.new ≡ most_cells) × Acceptance basis.now irreducibles.now result (tables_of cells.new) }
 {
-    let field = PrimeField::new(shape.p);
-    fill(
-        &mut *cells,
-        counts,
-        coefficients,
-        exponents,
-        shape,
-        irreducibles,
-    );
-    shape.lines == shape.n || commute(&*cells, shape.n, irreducibles.len(), field)
+    let field = PrimeField::new(basis.p);
+    fill(&mut *cells, basis, irreducibles);
+    basis.lines.len() == basis.n.count() || commute(&*cells, basis.n, irreducibles.len(), field)
 }

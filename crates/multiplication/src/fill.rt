@@ -7,7 +7,6 @@ ghost use Rattle.monomial.specs.Represented.{row};
 ghost use Rattle.monomial.specs.Ranks.{above_ranks, RisingRanks, Bounded};
 ghost use Rattle.monomial.specs.declared.Monomial.{Monomial};
 ghost use Rattle.lines.specs.Sizes.{most_standard};
-ghost use Rattle.lines.specs.Bases.{basis_in, Stored};
 ghost use Rattle.staircase.specs.Sound.{SoundLine};
 ghost use Rattle.coordinates.specs.Vectors.{Below};
 ghost use Rattle.multiplication.specs.Rows.{NoRows, tables_of, Cells};
@@ -19,10 +18,10 @@ ghost use Rattle.multiplication.specs.Filling.{Fillable, FilledRows};
 use crate::rows::{row_start, times_variable};
 use coordinates::Coordinates;
 use coordinates::rows::{put_row, row_at};
-use lines::Shape;
-use lines::line::Generator;
+use lines::StoredBasis;
+use lines::line::LineTerm;
 use lines::sizes::{MAX_LINES, MAX_STANDARD};
-use lines::store::line_at;
+use monomial::count::Variables;
 use monomial::rank::{next_place, place_after, put_variable_ranks, rank, rank_place};
 use monomial::{Exponent, MAX_VARIABLES, Monomial};
 use residue::Residue;
@@ -43,16 +42,15 @@ fn subtract_at(mut r: Coordinates, c: Residue, at: Option<usize>, p: u16) -> Coo
 }
 
 // Minus the tail of a line: its terms but the first, from the last on.
-fn tail_row(ranks: &[u64], g: Generator, n: usize, p: u16) -> Coordinates
-    requires { SoundLine p n g × (n ≤ most_variables) × (length ranks.now ≤ most_standard) × (p ≤ largest_modulus) }
-    ensures { (l : List Monomial) → DistinctRanks n l ranks.now → TailRow p n g l result }
+fn tail_row(ranks: &[u64], g: &[LineTerm], n: Variables, p: u16) -> Coordinates
+    requires { SoundLine p n g.now × (length ranks.now ≤ most_standard) × (p ≤ largest_modulus) }
+    ensures { (l : List Monomial) → DistinctRanks n l ranks.now → TailRow p n g.now l result }
 {
     let mut r = Coordinates::zero();
-    for k in (1..g.terms).rev() {
-        let m = g.monomials[k];
-        let c = g.coefficients[k];
-        let at = rank_place(ranks, rank(m, n));
-        r = subtract_at(r, c, at, p);
+    for k in (1..g.len()).rev() {
+        let t = g[k];
+        let at = rank_place(ranks, rank(t.monomial, n));
+        r = subtract_at(r, t.coefficient, at, p);
     }
     r
 }
@@ -66,12 +64,12 @@ fn is_detour(ranks: &[u64], e: Exponent, wanted: u64, x: u64) -> bool
 }
 
 // The first x_j that divides m with w less its rank no rank of the list, of which there is one.
-fn variable_through(ranks: &[u64], variables: &[u64], m: Monomial, wanted: u64, n: usize) -> usize
-    requires { (n ≤ length variables.now) × (n ≤ most_variables) × RisingRanks ranks.now (length ranks.now)
+fn variable_through(ranks: &[u64], variables: &[u64], m: Monomial, wanted: u64, n: Variables) -> usize
+    requires { (n ≤ length variables.now) × RisingRanks ranks.now (length ranks.now)
         × SomePasses n (row n m) ranks.now variables.now wanted }
     ensures { (result < n) × PassesBy ranks.now (exponent n (row n m) result) wanted (get_or variables.now result 0) }
 {
-    for j in 0..n {
+    for j in 0..n.count() {
         let e = m.e[j];
         if is_detour(ranks, e, wanted, variables[j]) {
             return j;
@@ -89,7 +87,7 @@ fn product_row(
     wanted: u64,
     i: usize,
     place: usize,
-    n: usize,
+    n: Variables,
     field: PrimeField,
 ) -> Coordinates
     requires { let l = irreducibles.now in
@@ -112,7 +110,7 @@ fn row_for(
     wanted: u64,
     i: usize,
     place: usize,
-    n: usize,
+    n: Variables,
     field: PrimeField,
 ) -> Coordinates
     requires { let l = irreducibles.now in Cells field.p cells.now × RankedList n l ranks.now variables.now × ProductAt n l i place wanted
@@ -150,46 +148,39 @@ fn product_rank(ranks: &[u64], x: u64, place: usize) -> u64
 }
 
 // The ranks of the products typeof.x_i.B_0.
-fn put_first_ranks(next: &mut [u64], ranks: &[u64], variables: &[u64], n: usize)
-    requires { (length next.old ≡ most_variables) × (n ≤ most_variables) × (n ≤ length variables.now) × Bounded variables.now n × Bounded ranks.now (length ranks.now) }
+fn put_first_ranks(next: &mut [u64], ranks: &[u64], variables: &[u64], n: Variables)
+    requires { (length next.old ≡ most_variables) × (n ≤ length variables.now) × Bounded variables.now n × Bounded ranks.now (length ranks.now) }
     ensures { FirstRanks ranks.now variables.now n next.new }
 {
-    for i in 0..n {
+    for i in 0..n.count() {
         next[i] = product_rank(ranks, variables[i], 0);
     }
 }
 
 // All rows, in rising order of the products: the next products of the n variables are merged by their ranks.
-pub fn fill(
-    cells: &mut [u16],
-    counts: &[usize],
-    coefficients: &[u16],
-    exponents: &[u8],
-    shape: Shape,
-    irreducibles: &[Monomial],
-)
-    requires { NoRows cells.old × Stored shape counts.now coefficients.now exponents.now (λ b. Fillable b irreducibles.now) }
-    ensures { let b = basis_in shape counts.now coefficients.now exponents.now in
-        FilledRows b irreducibles.now cells.new }
+pub fn fill(cells: &mut [u16], basis: &StoredBasis, irreducibles: &[Monomial])
+    requires { NoRows cells.old × Fillable basis.now irreducibles.now }
+    ensures { FilledRows basis.now irreducibles.now cells.new }
 {
     let mut c = Cursors {
         at: [0; MAX_VARIABLES],
     };
-    let field = PrimeField::new(shape.p);
-    let ranks = ranks_of::<MAX_STANDARD>(irreducibles, shape.n);
-    let leads = leads_of(exponents, shape.lines);
-    let lead_ranks = ranks_of::<MAX_LINES>(&leads, shape.n);
+    let n = basis.n;
+    let field = PrimeField::new(basis.p);
+    let ranks = ranks_of::<MAX_STANDARD>(irreducibles, n);
+    let leads = leads_of(basis);
+    let lead_ranks = ranks_of::<MAX_LINES>(&leads, n);
     let mut variables: [u64; MAX_VARIABLES] = [0; MAX_VARIABLES];
-    put_variable_ranks(&mut variables, shape.n);
+    put_variable_ranks(&mut variables, n);
     let mut next: [u64; MAX_VARIABLES] = [0; MAX_VARIABLES];
-    put_first_ranks(&mut next, &ranks, &variables, shape.n);
-    while let Some(i) = next_place(&next[..shape.n], 1) {
+    put_first_ranks(&mut next, &ranks, &variables, n);
+    while let Some(i) = next_place(&next[..n.count()], 1) {
         let s = c.at[i];
         let w = next[i];
         let row = match rank_place(&lead_ranks, w) {
             Some(k) => {
-                let g = line_at(counts, coefficients, exponents, k);
-                tail_row(&ranks, g, shape.n, shape.p)
+                let g = &basis.lines[k];
+                tail_row(&ranks, g, n, basis.p)
             }
             None => row_for(
                 &*cells,
@@ -199,7 +190,7 @@ pub fn fill(
                 w,
                 i,
                 s,
-                shape.n,
+                n,
                 field,
             ),
         };

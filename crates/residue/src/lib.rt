@@ -17,7 +17,7 @@ pub mod prime;
 pub mod reciprocals;
 pub mod word;
 
-#[derive(Clone, Copy, PartialEq, Eq)]
+#[derive(Clone, Copy, Default, PartialEq, Eq)]
 pub struct Residue(pub u16);
 
 impl Residue {

@@ -1,7 +1,7 @@
 -- Inner contracts. Lists of leading monomials, their multiples, and what is next in lex among the others.
 --   rows_of n ms             the monomials of a list of the code, as rows of n exponents
 --   lead_monomials n leads   the leading monomials that a list of the code has
---   LeadsIn es lines ms      the list has the leading monomials of the lines of the arrays of a basis
+--   leads_in b               the leading monomials of the lines of a basis
 --   LeadsOf b ms             the list has the leading monomials of a basis
 --   multiple n L m           whether a monomial of L divides m
 --   PowerIn n v L            a monomial of L is a power of variable v
@@ -9,17 +9,19 @@
 --   NextIs                   the next monomial in lex that is not excluded, or that there is none
 --   FoundNext                so it is, as the code answers: no exponent is raised by more than one
 --   CountIs                  all monomials that are not excluded, in rising lex order, or that there are more than `most`
-use Rattle.std.specs.Prelude.{ℕ, suc, ◌*◌, ◌≤◌, ◌<◌, ◌≡◌, Bool, true, false, List, [], ◌∷◌, map, length, get_or, Option, Some, None, option_map, IfSome}
+use Rattle.std.specs.Prelude.{ℕ, suc, ◌≤◌, ◌<◌, ◌≡◌, Bool, true, false, List, [], ◌∷◌, map, length, Option, Some, None, option_map, IfSome}
 use Rattle.std.proofs.Math.Option.{none, some}
+use Rattle.arrayvec.specs.ArrayVec.{ArrayVec}
 use Rattle.lists.specs.Lists.{◌∈◌}
 use Rattle.monomial.specs.Rows.{Row, exponent}
 use Rattle.monomial.specs.Quotients.{divides, is_power}
 use Rattle.monomial.specs.Represented.{row}
 use Rattle.monomial.specs.declared.Monomial.{Monomial}
 use Rattle.groebner.specs.Next.{next, irreducibles}
-use Rattle.lines.specs.Sizes.{most_terms}
-use Rattle.lines.specs.Stored.{monomial_in}
-use Rattle.lines.specs.Bases.{StoredBasis, Padded}
+use Rattle.lines.specs.LineTerms.{monomial_at}
+use Rattle.lines.specs.Bases.{Padded}
+use Rattle.lines.specs.declared.line.LineTerm.{LineTerm}
+use Rattle.lines.specs.declared.StoredBasis.{StoredBasis}
 use Rattle.staircase.specs.StoredLines.{stored_lines}
 
 -- The monomials of a list of the code, as rows of n exponents.
@@ -31,13 +33,14 @@ rows_of n ms = map (row n) ms
 abbrev pub lead_monomials : (n : ℕ) → List Monomial → List (Row n)
 lead_monomials n leads = rows_of n leads
 
--- The list has the leading monomials of the first lines that the array es of exponents has.
-abbrev pub LeadsIn : List ℕ → ℕ → List Monomial → Type 0
-LeadsIn es lines ms = (length ms ≡ lines) × ((k : ℕ) → k < lines → get_or ms k (record { e = [] }) ≡ monomial_in es (k * most_terms))
+-- The leading monomials of the lines of a basis.
+unfoldable pub leads_in : StoredBasis → List Monomial
+unfolding monomial_at
+leads_in b = map (λ (g : ArrayVec LineTerm). monomial_at g.items 0) b.lines.items
 
 -- The list has the leading monomials of a basis, line by line.
 abbrev pub LeadsOf : StoredBasis → List Monomial → Type 0
-LeadsOf b ms = (length ms ≡ b.lines) × ((h : 1 < b.p) → rows_of b.n ms ≡ map (λ g. g.0) (stored_lines b h))
+LeadsOf b ms = (length ms ≡ length b.lines.items) × ((h : 1 < b.p) → rows_of b.n ms ≡ map (λ g. g.0) (stored_lines b h))
 
 -- Whether a monomial of L divides m.
 unfoldable pub multiple : (n : ℕ) → List (Row n) → Row n → Bool

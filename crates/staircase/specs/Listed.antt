@@ -13,7 +13,7 @@ use Rattle.groebner.specs.Lines.{Reducible}
 use Rattle.groebner.specs.RisingLists.{ListsRising}
 use Rattle.lines.specs.Sizes.{most_standard}
 use Rattle.monomial.specs.declared.Monomial.{Monomial}
-use Rattle.lines.specs.Bases.{StoredBasis}
+use Rattle.lines.specs.declared.StoredBasis.{StoredBasis}
 use Rattle.staircase.specs.StoredLines.{stored_lines}
 use Rattle.staircase.specs.Leads.{rows_of}
 

@@ -4,7 +4,8 @@ use Rattle.std.specs.Prelude.{◌<◌, List}
 use Rattle.residue.specs.Field.{ZMod}
 use Rattle.monomial.specs.Rows.{Row}
 use Rattle.groebner.specs.Lines.{Line}
-use Rattle.lines.specs.Bases.{generators_in, StoredBasis}
+use Rattle.lines.specs.Bases.{generators_in}
+use Rattle.lines.specs.declared.StoredBasis.{StoredBasis}
 use Rattle.staircase.specs.TermLines.{lines_of}
 
 -- The lines that a basis of the code holds.

@@ -11,12 +11,13 @@ use crate::next::next;
 use arrayvec::ArrayVec;
 use lines::sizes::MAX_STANDARD;
 use monomial::Monomial;
+use monomial::count::Variables;
 use monomial::order::x1_to_xn;
 
 pub type Irreducibles = ArrayVec<Monomial, MAX_STANDARD>;
 
 // The list of them, or None: there are more than MAX_STANDARD.
-pub fn list_irreducibles(leads: &[Monomial], n: usize) -> Option<Irreducibles>
+pub fn list_irreducibles(leads: &[Monomial], n: Variables) -> Option<Irreducibles>
     requires { VariableCount n }
     ensures { CountIs n (variables n) (multiple n (lead_monomials n leads.now)) most_standard (option_map (λ l. listed n l.items) result)
         × IfSome result (λ l. length l.items ≤ most_standard) }

@@ -6,12 +6,12 @@ use Rattle.std.specs.Prelude.{ℕ, List, [], ◌∷◌, ◌++◌, map}
 use Rattle.lists.specs.Lists.{Bytes}
 use Rattle.monomial.specs.declared.Monomial.{Monomial}
 use Rattle.lines.specs.LineTerms.{exponents_of, terms_in}
-use Rattle.lines.specs.declared.line.Generator.{Generator}
+use Rattle.lines.specs.declared.line.LineTerm.{LineTerm}
 use Rattle.tabtext.specs.Text.{TextLine, generator, standard, decimal}
 unfoldable pub use Rattle.tabtext.specs.Text.{printed}
 
 -- The line of a basis.
-unfoldable pub generator_line : ℕ → Generator → TextLine
+unfoldable pub generator_line : ℕ → List LineTerm → TextLine
 unfolding terms_in
 generator_line n g = generator (terms_in n g)
 

@@ -4,7 +4,7 @@
 // digits: this bounds the width of a poly line and of a stairs line.
 //
 //   print_after                a separator and a number
-//   value, exponent_at         an exponent as a number; that of a variable
+//   exponent_at                the exponent of a variable, as a number
 //   print_exponents            the exponents of a monomial
 //   print_term                 a coefficient and a monomial
 //   print_generator            a poly line
@@ -19,8 +19,9 @@ ghost use Rattle.tabtext.specs.Text.{Number, header, decimal, dotted, term};
 ghost use Rattle.tabtext.specs.Printed.{generator_line, standard_line, printed, count_line};
 
 use crate::sink::Sink;
-use lines::line::Generator;
-use monomial::{Exponent, Monomial};
+use lines::line::LineTerm;
+use monomial::Monomial;
+use monomial::count::Variables;
 use residue::Residue;
 
 // A separator, and the number v.
@@ -32,33 +33,26 @@ fn print_after<S: Sink>(sink: &mut S, separator: u8, v: u32)
     sink.put_number(v);
 }
 
-// An exponent, as a number.
-fn value(x: Exponent) -> u32
-    ensures { (result ≡ x.0) × Number result }
-{
-    x.0 as u32
-}
-
 // The exponent of variable i, counted from 0.
 fn exponent_at(m: Monomial, i: usize) -> u32
     requires { i < most_variables }
     ensures { ((n : ℕ) → i < n → result ≡ get_or (exponents_of n m) i 0) × Number result }
 {
-    value(m.e[i])
+    u32::from(m.e[i].0)
 }
 
-pub fn print_exponents<S: Sink>(sink: &mut S, m: Monomial, n: usize)
+pub fn print_exponents<S: Sink>(sink: &mut S, m: Monomial, n: Variables)
     requires { VariableCount n × S.takes sink.old (length (dotted (exponents_of n m))) }
     ensures printed { sink.new ≡ S.after sink.old (dotted (exponents_of n m)) }
     ensures short { length (dotted (exponents_of n m)) ≤ 24 }
 {
     sink.put_number(exponent_at(m, 0));
-    for j in 1..n {
+    for j in 1..n.count() {
         print_after(&mut *sink, b'.', exponent_at(m, j));
     }
 }
 
-pub fn print_term<S: Sink>(sink: &mut S, c: Residue, m: Monomial, n: usize)
+pub fn print_term<S: Sink>(sink: &mut S, c: Residue, m: Monomial, n: Variables)
     requires { VariableCount n × S.takes sink.old (length (term (c.0, exponents_of n m))) }
     ensures printed { sink.new ≡ S.after sink.old (term (c.0, exponents_of n m)) }
     ensures short { length (term (c.0, exponents_of n m)) ≤ 30 }
@@ -68,21 +62,20 @@ pub fn print_term<S: Sink>(sink: &mut S, c: Residue, m: Monomial, n: usize)
     print_exponents(&mut *sink, m, n);
 }
 
-pub fn print_generator<S: Sink>(sink: &mut S, g: Generator, n: usize)
-    requires { (g.terms ≤ most_terms) × VariableCount n × S.takes sink.old (length (printed (generator_line n g))) }
-    ensures printed { sink.new ≡ S.after sink.old (printed (generator_line n g)) }
-    ensures short { length (printed (generator_line n g)) ≤ 5 + 31 * most_terms }
+pub fn print_generator<S: Sink>(sink: &mut S, g: &[LineTerm], n: Variables)
+    requires { (length g.now ≤ most_terms) × VariableCount n × S.takes sink.old (length (printed (generator_line n g.now))) }
+    ensures printed { sink.new ≡ S.after sink.old (printed (generator_line n g.now)) }
+    ensures short { length (printed (generator_line n g.now)) ≤ 5 + 31 * most_terms }
 {
     sink.put_bytes(b"poly");
-    // A loop of its own: a term is taken from two arrays, a field of the stairs line from one slice.
-    for j in 0..g.terms {
+    for t in g {
         sink.put(b'\t');
-        print_term(&mut *sink, g.coefficients[j], g.monomials[j], n);
+        print_term(&mut *sink, t.coefficient, t.monomial, n);
     }
     sink.put(b'\n');
 }
 
-pub fn print_standard<S: Sink>(sink: &mut S, monomials: &[Monomial], n: usize)
+pub fn print_standard<S: Sink>(sink: &mut S, monomials: &[Monomial], n: Variables)
     requires { VariableCount n × S.takes sink.old (length (printed (standard_line n monomials.now))) }
     ensures printed { sink.new ≡ S.after sink.old (printed (standard_line n monomials.now)) }
     ensures short { length (printed (standard_line n monomials.now)) ≤ 7 + 25 * length monomials.now }
@@ -95,15 +88,15 @@ pub fn print_standard<S: Sink>(sink: &mut S, monomials: &[Monomial], n: usize)
     sink.put(b'\n');
 }
 
-pub fn print_header<S: Sink>(sink: &mut S, word: &[u8], p: u16, n: usize)
-    requires { (n ≤ most_variables) × S.takes sink.old (length (printed (header word.now p n))) }
+pub fn print_header<S: Sink>(sink: &mut S, word: &[u8], p: u16, n: Variables)
+    requires { S.takes sink.old (length (printed (header word.now p n))) }
     ensures printed { sink.new ≡ S.after sink.old (printed (header word.now p n)) }
     ensures short { length (printed (header word.now p n)) ≤ length word.now + 19 }
 {
     sink.put_bytes(b"basis\t");
     sink.put_bytes(word);
     print_after(&mut *sink, b'\t', p as u32);
-    print_after(&mut *sink, b'\t', n as u32);
+    print_after(&mut *sink, b'\t', n.count() as u32);
     sink.put(b'\n');
 }
 

@@ -1,11 +1,11 @@
 // The record of a line: its number and one of five line kinds (document 01, "The tab text").
 ghost use Rattle.std.specs.Prelude.{◌≡◌, ◌≤◌, length, drop};
-ghost use Rattle.monomial.specs.Sizes.{most_variables};
 ghost use Rattle.tabtext.specs.Text.{bytes};
 ghost use Rattle.tabtext.specs.Readers.{letter, read_order, read_last, read_header, read_generator, read_standard, read_line};
 ghost use Rattle.tabtext.specs.Answers.{NumberSays, NextSays, WordAt, WordSays, kind_read, read_at};
 
 use crate::terms::{byte_is, read_byte, read_field, read_rows, read_terms};
+use monomial::count::Variables;
 
 // The bytes of a text from start up to end.
 #[derive(Clone, Copy)]
@@ -93,8 +93,8 @@ fn read_header(text: &[u8], at: usize) -> Option<(Kind, usize)>
 }
 
 // A poly line.
-fn read_generator(text: &[u8], at: usize, n: usize) -> Option<(Kind, usize)>
-    requires { WordAt (bytes "poly") text.now at × (n ≤ most_variables) }
+fn read_generator(text: &[u8], at: usize, n: Variables) -> Option<(Kind, usize)>
+    requires { WordAt (bytes "poly") text.now at }
     ensures { result ≡ kind_read text.now at (read_generator n (drop at text.now)) }
 {
     let start = at + 4;
@@ -107,8 +107,8 @@ fn read_generator(text: &[u8], at: usize, n: usize) -> Option<(Kind, usize)>
 }
 
 // A stairs line.
-fn read_standard(text: &[u8], at: usize, n: usize) -> Option<(Kind, usize)>
-    requires { WordAt (bytes "stairs") text.now at × (n ≤ most_variables) }
+fn read_standard(text: &[u8], at: usize, n: Variables) -> Option<(Kind, usize)>
+    requires { WordAt (bytes "stairs") text.now at }
     ensures { result ≡ kind_read text.now at (read_standard n (drop at text.now)) }
 {
     let start = at + 6;
@@ -118,8 +118,8 @@ fn read_standard(text: &[u8], at: usize, n: usize) -> Option<(Kind, usize)>
 }
 
 // The kind of the line at a place, in n variables. Its first word decides how it is read; a runs line and an end line have a number after it.
-fn read_kind(text: &[u8], at: usize, n: usize) -> Option<(Kind, usize)>
-    requires { (at ≤ length text.now) × (n ≤ most_variables) }
+fn read_kind(text: &[u8], at: usize, n: Variables) -> Option<(Kind, usize)>
+    requires { at ≤ length text.now }
     ensures { result ≡ kind_read text.now at (read_line n (drop at text.now)) }
 {
     if word_at(text, at, b"basis\t") {
@@ -140,8 +140,8 @@ fn read_kind(text: &[u8], at: usize, n: usize) -> Option<(Kind, usize)>
 }
 
 // The line at a place, in n variables: its record, with the line's number, and the place after its LF.
-pub fn read_record(text: &[u8], at: usize, n: usize, line: usize) -> Option<(Record, usize)>
-    requires { (at ≤ length text.now) × (n ≤ most_variables) }
+pub fn read_record(text: &[u8], at: usize, n: Variables, line: usize) -> Option<(Record, usize)>
+    requires { at ≤ length text.now }
     ensures { result ≡ read_at n line text.now at }
 {
     let (kind, next) = read_kind(text, at, n)?;

@@ -1,11 +1,11 @@
 // Bytes, rows of exponents and terms, read at a place of a text. Each reader gives the place after what it read.
 ghost use Rattle.std.specs.Prelude.{◌≡◌, ℕ, ◌+◌, ◌<◌, ◌≤◌, true, Some, length, drop};
-ghost use Rattle.monomial.specs.Sizes.{most_variables};
 ghost use Rattle.tabtext.specs.Readers.{starts_with, read_byte, read_field, read_exponent, read_row, read_term, read_terms, read_rows};
 ghost use Rattle.tabtext.specs.Answers.{NumberSays, NextSays, RowSays, TermSays, FieldsSay};
 
 use crate::number::read_number;
 use monomial::MAX_VARIABLES;
+use monomial::count::Variables;
 
 // A term as it was read: its coefficient, and a row of which the first n numbers were read.
 #[derive(Clone, Copy)]
@@ -55,15 +55,14 @@ fn read_exponent(text: &[u8], at: usize, j: usize) -> Option<(u32, usize)>
 pub fn read_exponents(
     text: &[u8],
     at: usize,
-    n: usize,
+    n: Variables,
     separator: u8,
 ) -> Option<([u32; MAX_VARIABLES], usize)>
-    requires { n ≤ most_variables }
     ensures { RowSays n separator text.now at result }
 {
     let mut row = [0; MAX_VARIABLES];
     let mut i = read_byte(text, at, separator)?;
-    for j in 0..n {
+    for j in 0..n.count() {
         let (v, next) = read_exponent(text, i, j)?;
         row[j] = v;
         i = next;
@@ -72,8 +71,7 @@ pub fn read_exponents(
 }
 
 // A coefficient, and n exponents after a colon.
-pub fn read_term(text: &[u8], at: usize, n: usize) -> Option<(RawTerm, usize)>
-    requires { n ≤ most_variables }
+pub fn read_term(text: &[u8], at: usize, n: Variables) -> Option<(RawTerm, usize)>
     ensures { TermSays n text.now at result }
 {
     let (coefficient, i) = read_number(text, at)?;
@@ -95,12 +93,11 @@ fn read_fields<F: Fn(usize) -> Option<usize>>(text: &[u8], at: usize, field: F) 
 }
 
 // Terms, a tab before each, up to LF.
-pub fn read_terms(text: &[u8], at: usize, n: usize) -> Option<usize>
-    requires { n ≤ most_variables }
+pub fn read_terms(text: &[u8], at: usize, n: Variables) -> Option<usize>
     ensures { NextSays (read_terms n) text.now at result }
 {
     let term = |i|
-        requires { (n ≤ most_variables) × (starts_with 9 (drop i text.now) ≡ true) }
+        requires { starts_with 9 (drop i text.now) ≡ true }
         ensures { NextSays (read_term n) text.entry.now (i + 1) result }
     {
         let (_, next) = read_term(text, i + 1, n)?;
@@ -110,13 +107,11 @@ pub fn read_terms(text: &[u8], at: usize, n: usize) -> Option<usize>
 }
 
 // Rows of n exponents, a tab before each, up to LF.
-pub fn read_rows(text: &[u8], at: usize, n: usize) -> Option<usize>
-    requires { n ≤ most_variables }
+pub fn read_rows(text: &[u8], at: usize, n: Variables) -> Option<usize>
     ensures { NextSays (read_rows n) text.now at result }
 {
     let row = |i|
-        requires { n ≤ most_variables }
-        ensures { NextSays (read_row n 9) text.entry.now i result }
+            ensures { NextSays (read_row n 9) text.entry.now i result }
     {
         let (_, next) = read_exponents(text, i, n, b'\t')?;
         Some(next)
