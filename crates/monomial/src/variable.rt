@@ -31,5 +31,6 @@ pub fn over_variable(m: Monomial, i: usize, n: Variables) -> Monomial
     requires { (i < n) × (0 < exponent n (row n m) i) }
     ensures { row n result ≡ quotient n (row n m) (x n i) }
 {
+    prove!(i < n.count());
     m.quotient(variable(i), n)
 }

@@ -6,4 +6,4 @@ use Rattle.monomial.proofs.Monomial.compare_backwards.Given as goal
 
 abbrev pub invariant-loop-i : goal.invariant-loop-i
 invariant-loop-i l =
-    lex l.n (backwards l.i) (row l.n l.self) (row l.n l.other) ≡ lex l.n (backwards l.n) (row l.n l.self) (row l.n l.other)
+    lex l.fn.n (backwards l.i) (row l.fn.n l.self) (row l.fn.n l.other) ≡ lex l.fn.n (backwards l.fn.n) (row l.fn.n l.self) (row l.fn.n l.other)

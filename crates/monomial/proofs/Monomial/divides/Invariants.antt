@@ -5,4 +5,4 @@ use Rattle.monomial.specs.Represented.{row}
 use Rattle.monomial.proofs.Monomial.divides.Given as goal
 
 abbrev pub invariant-loop-i : goal.invariant-loop-i
-invariant-loop-i l = (k : ℕ) → k < l.i → exponent l.n (row l.n l.self) k ≤ exponent l.n (row l.n l.other) k
+invariant-loop-i l = (k : ℕ) → k < l.i → exponent l.fn.n (row l.fn.n l.self) k ≤ exponent l.fn.n (row l.fn.n l.other) k

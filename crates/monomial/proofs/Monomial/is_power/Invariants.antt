@@ -6,4 +6,4 @@ use Rattle.monomial.specs.Represented.{row}
 use Rattle.monomial.proofs.Monomial.is_power.Given as goal
 
 abbrev pub invariant-loop-i : goal.invariant-loop-i
-invariant-loop-i l = (k : ℕ) → k < l.i → ¬ (k ≡ l.v) → exponent l.n (row l.n l.self) k ≡ 0
+invariant-loop-i l = (k : ℕ) → k < l.i → ¬ (k ≡ l.v) → exponent l.fn.n (row l.fn.n l.self) k ≡ 0
