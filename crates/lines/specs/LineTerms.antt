@@ -3,6 +3,7 @@
 --   term_of n t           a term of a line, as numbers
 --   terms_in n g          the terms of a line of a basis
 --   terms_of_lines n ls   those of each line of a list
+--   no_term               what stands past the end of a line
 --   coefficient_at g k    the coefficient of term k of a line, from 0
 --   monomial_at g k       its monomial
 --   Monic ts              the first coefficient of a poly line is 1
@@ -35,15 +36,20 @@ unfoldable pub terms_of_lines : ℕ → List (ArrayVec LineTerm) → List (List 
 unfolding terms_in
 terms_of_lines n ls = map (λ g. terms_in n g.items) ls
 
+-- What stands past the end of a line: 0, and the monomial 1.
+unfoldable pub no_term : LineTerm
+unfolding monomial one
+no_term = record { coefficient = record { 0 = 0 }; monomial = monomial most_variables (one most_variables) }
+
 -- The coefficient of term k of a line, from 0.
 unfoldable pub coefficient_at : List LineTerm → ℕ → ℕ
-unfolding monomial one
-coefficient_at g k = (get_or g k (record { coefficient = record { 0 = 0 }; monomial = monomial most_variables (one most_variables) })).coefficient.0
+unfolding no_term
+coefficient_at g k = (get_or g k no_term).coefficient.0
 
 -- Its monomial.
 unfoldable pub monomial_at : List LineTerm → ℕ → Monomial
-unfolding monomial one
-monomial_at g k = (get_or g k (record { coefficient = record { 0 = 0 }; monomial = monomial most_variables (one most_variables) })).monomial
+unfolding no_term
+monomial_at g k = (get_or g k no_term).monomial
 
 -- The first coefficient is 1, as 9 asks.
 abbrev pub Monic : List Term → Type 0

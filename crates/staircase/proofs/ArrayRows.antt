@@ -1,19 +1,17 @@
 -- The rows of exponents that lists of monomials hold.
 --   no_monomial   a value without exponents, which stands past the end of a list
 --   row-empty     a value without exponents holds the monomial 1
---   row_at        term k of a line, as a row
+--   row-one       so does the monomial 1 in all variables
 --   rows-length   a list of monomials has as many rows
 --   rows_at       the j-th of them
 use mathlib.Core.Path.{◌≡◌, refl, sym, ◌∙◌, ap}
-use mathlib.Core.List.{List, [], ◌∷◌, map}
+use mathlib.Core.List.{List, [], map}
 use Prim.Native.Nat.{ℕ, zero, suc}
 use lib.ListN.{length, get_or, length-map, get_or-map}
 use Rattle.monomial.specs.Sizes.{most_variables}
 use Rattle.monomial.specs.Rows.{one}
 use Rattle.monomial.specs.Represented.{row_of, row, exponent_list, monomial}
 use Rattle.monomial.specs.declared.Monomial.{Monomial}
-use Rattle.lines.specs.declared.line.Generator.{Generator}
-use Rattle.staircase.specs.Sound.{monomial_at}
 use Rattle.staircase.specs.Leads.{rows_of}
 
 -- A value without exponents.
@@ -36,18 +34,9 @@ row-of-one n zero = row-of-empty n
 row-of-one zero (suc k) = refl
 row-of-one (suc n) (suc k) = λ i. (0, row-of-one n k i)
 
-row-of-default : (n : ℕ) → row n (monomial most_variables (one most_variables)) ≡ row n no_monomial
+pub row-one : (n : ℕ) → row n (monomial most_variables (one most_variables)) ≡ one n
 unfolding row monomial exponent_list one
-row-of-default n = row-of-one n most_variables ∙ sym (row-of-empty n)
-
-pub row_at : (n : ℕ) (g : Generator) (k : ℕ) → row n (monomial_at g k) ≡ row n (get_or g.monomials k no_monomial)
-unfolding monomial_at
-row_at n g k = go g.monomials k
-  where
-    go : (l : List Monomial) (k : ℕ) → row n (get_or l k (monomial most_variables (one most_variables))) ≡ row n (get_or l k no_monomial)
-    go [] k = row-of-default n
-    go (m ∷ l) zero = refl
-    go (m ∷ l) (suc k) = go l k
+row-one n = row-of-one n most_variables
 
 module _ (n : ℕ) (ms : List Monomial) where
   pub rows-length : length (rows_of n ms) ≡ length ms

@@ -5,7 +5,7 @@
 --   divided-iff              check 12 by places of the lines
 --   divides-term-iff         the test for the terms of a line
 --   divided-by-another-iff   a monomial of a list at another place than i divides one of the line's
---   divided-of-basis         check 12 by places of the arrays
+--   divided-of-basis         check 12 by places of the basis
 use mathlib.Core.Path.{◌≡◌, refl, sym, ◌∙◌, ap, subst, subst₂}
 use mathlib.Core.List.{List, [], map}
 use mathlib.Core.Bool.{Bool, true}
@@ -24,15 +24,16 @@ use Rattle.monomial.specs.declared.Monomial.{Monomial}
 use Rattle.monomial.proofs.Products.{divides-iff}
 use Rattle.groebner.specs.Lines.{Line, polynomial}
 use Rattle.groebner.proofs.Lists.{in_map, of_map}
-use Rattle.lines.specs.Bases.{StoredBasis}
-use Rattle.lines.specs.declared.line.Generator.{Generator}
+use Rattle.lines.specs.LineTerms.{monomial_at}
+use Rattle.lines.specs.declared.line.LineTerm.{LineTerm}
+use Rattle.lines.specs.declared.StoredBasis.{StoredBasis}
 use Rattle.staircase.specs.StoredLines.{stored_lines}
-use Rattle.staircase.specs.Sound.{Sound, generator_at, monomial_at}
+use Rattle.staircase.specs.Sound.{Sound, generator_at}
 use Rattle.staircase.specs.Leads.{rows_of, LeadsOf}
 use Rattle.staircase.specs.Places.{DividesTerm, DividedByAnother}
 use Rattle.staircase.specs.Conditions.{On, Divided}
-use Rattle.staircase.proofs.ArrayRows.{no_monomial, row_at, rows-length, rows_at}
-use Rattle.staircase.proofs.LineElements.{WithinArrays, stored-lines-length, line-at, line-monomials-at}
+use Rattle.staircase.proofs.ArrayRows.{no_monomial, rows-length, rows_at}
+use Rattle.staircase.proofs.LineElements.{stored-lines-length, line-at, line-monomials-at}
 use Rattle.staircase.proofs.SmallestLine.{ByPlaces}
 
 pub on-iff : {A : Type 0} (d : A) (G : List A) (k : ℕ) (g : A) → On G k g ↔ ((i : ℕ) × (k ≡ i + 2) × (i < length G) × (g ≡ get_or G i d))
@@ -86,21 +87,18 @@ module _ {F M : Type 0} (R : Arithmetic F) where
               divides = subst (Divides 𝓜 (get_or G j d).0) e v;
             }
 
-pub divides-term-iff : (n : ℕ) (d : Row n) (g : Generator) {t : Bool}
-    → (t ≡ true) ↔ ((k : ℕ) × (k < g.terms) × (divides n d (row n (get_or g.monomials k no_monomial)) ≡ true)) → (t ≡ true) ↔ DividesTerm n d g
-divides-term-iff n d g i = (λ e. let (k, l, q) = i.0 e in (k, l, (at k).0 q), λ (k, l, q). i.1 (k, l, (at k).1 q))
-  where
-    at : (k : ℕ) → (divides n d (row n (get_or g.monomials k no_monomial)) ≡ true) ↔ Divides (monomials n) d (row n (monomial_at g k))
-    at k = rw row_at (divides-iff n d _)
+pub divides-term-iff : (n : ℕ) (d : Row n) (g : List LineTerm) {t : Bool}
+    → (t ≡ true) ↔ ((k : ℕ) × (k < length g) × (divides n d (row n (monomial_at g k)) ≡ true)) → (t ≡ true) ↔ DividesTerm n d g
+divides-term-iff n d g i = (λ e. let (k, l, q) = i.0 e in (k, l, (divides-iff n d _).0 q), λ (k, l, q). i.1 (k, l, (divides-iff n d _).1 q))
 
-pub divided-by-another-iff : (n i : ℕ) (ms : List Monomial) (g : Generator)
+pub divided-by-another-iff : (n i : ℕ) (ms : List Monomial) (g : List LineTerm)
     → DividedByAnother n i (rows_of n ms) g ↔ ((j : ℕ) × (j < length ms) × ((¬ (j ≡ i)) × DividesTerm n (row n (get_or ms j no_monomial)) g))
 divided-by-another-iff n i ms g = (
   λ (j, l, d, t). (j, omega (arith, rows-length n ms), (d, subst (λ (x : Row n). DividesTerm n x g) (rows_at n ms j) t)),
   λ (j, l, (d, t)). (j, omega (arith, rows-length n ms), d, subst (λ (x : Row n). DividesTerm n x g) (sym (rows_at n ms j)) t),
 )
 
-module _ (b : StoredBasis) (sound : Sound b) (filled : WithinArrays b) (ms : List Monomial) (leads : LeadsOf b ms) (h : 1 < b.p) where
+module _ (b : StoredBasis) (sound : Sound b) (ms : List Monomial) (leads : LeadsOf b ms) (h : 1 < b.p) where
   abbrev n : ℕ
   n = b.n
 
@@ -116,11 +114,11 @@ module _ (b : StoredBasis) (sound : Sound b) (filled : WithinArrays b) (ms : Lis
   lead-at : (j : ℕ) → (get_or G j (one n, [])).0 ≡ get_or L j (one n)
   lead-at j = sym (get_or-map (λ g. g.0) G j (one n, [])) ∙ ap (λ (l : List (Row n)). get_or l j (one n)) (sym (leads.1 h))
 
-  monomial-in : (i : ℕ) → i < b.lines → (m : Row n)
-      → m ∈ monomials_of (modulo b.p h) (get_or G i (one n, [])) ↔ ((k : ℕ) × (k < (generator_at b i).terms) × (m ≡ row n (monomial_at (generator_at b i) k)))
-  monomial-in i l m = rw (line-at b h i l) (line-monomials-at b.p h n (generator_at b i) (sound.lines i l) (filled.terms i l) m)
+  monomial-in : (i : ℕ) → i < length b.lines.items → (m : Row n)
+      → m ∈ monomials_of (modulo b.p h) (get_or G i (one n, [])) ↔ ((k : ℕ) × (k < length (generator_at b i)) × (m ≡ row n (monomial_at (generator_at b i) k)))
+  monomial-in i l m = rw (line-at b h i) (line-monomials-at b.p h n (generator_at b i) (sound.lines i l).some m)
 
-  divided-at : (i : ℕ) → i < b.lines → DividedAt (modulo b.p h) (monomials n) G (one n, []) i ↔ DividedByAnother n i L (generator_at b i)
+  divided-at : (i : ℕ) → i < length b.lines.items → DividedAt (modulo b.p h) (monomials n) G (one n, []) i ↔ DividedByAnother n i L (generator_at b i)
   divided-at i l = (
     λ (j, lj, d, m, q, v). let (k, lk, e) = (monomial-in i l m).0 q in (j, omega (arith, many), d, (k, lk, subst₂ (Divides (monomials n)) (lead-at j) e v)),
     λ (j, lj, d, (k, lk, v)).
@@ -128,11 +126,11 @@ module _ (b : StoredBasis) (sound : Sound b) (filled : WithinArrays b) (ms : Lis
         (j, omega (arith, many), d, m, (monomial-in i l m).1 (k, lk, refl), subst (λ (x : Row n). Divides (monomials n) x m) (sym (lead-at j)) v),
   )
 
-  pub divided-of-basis : ByPlaces (Divided (modulo b.p h) (monomials n) G) (λ i. DividedByAnother n i L (generator_at b i)) b.lines
+  pub divided-of-basis : ByPlaces (Divided (modulo b.p h) (monomials n) G) (λ i. DividedByAnother n i L (generator_at b i)) (length b.lines.items)
   divided-of-basis k = (
     λ w.
         let (i, e, l, a) = (divided-iff (modulo b.p h) (monomials n) G (one n, []) k).0 w in
-        let l' : i < b.lines = omega (arith, stored-lines-length b h filled.lines) in
+        let l' : i < length b.lines.items = omega (arith, stored-lines-length b h) in
         (i, e, l', (divided-at i l').0 a),
-    λ (i, e, l, a). (divided-iff (modulo b.p h) (monomials n) G (one n, []) k).1 (i, e, omega (arith, stored-lines-length b h filled.lines), (divided-at i l).1 a),
+    λ (i, e, l, a). (divided-iff (modulo b.p h) (monomials n) G (one n, []) k).1 (i, e, omega (arith, stored-lines-length b h), (divided-at i l).1 a),
   )

@@ -30,7 +30,7 @@ use Rattle.groebner.proofs.RisingLists.{lists-once}
 use Rattle.groebner.proofs.Next.{next-lex, variables-ranking}
 use Rattle.groebner.proofs.IrreducibleList.{Counts, irreducibles-of-lines}
 use Rattle.lines.specs.Sizes.{most_standard}
-use Rattle.lines.specs.Bases.{StoredBasis}
+use Rattle.lines.specs.declared.StoredBasis.{StoredBasis}
 use Rattle.staircase.specs.StoredLines.{stored_lines}
 use Rattle.staircase.specs.Leads.{rows_of, LeadsOf, multiple, CountIs}
 use Rattle.staircase.specs.Sound.{Sound}

@@ -4,7 +4,6 @@
 --   RowsInTurn          the rows of a list of monomials that grows
 --   LineElements        the lines of a basis of the code, by their places
 --   LineLeads           their leading monomials
---   StoredBasis         the lines of a basis that stand in arrays
 -- The loops:
 --   FirstElements       a search among the elements of a list, and a test of all numbers below n
 --   Multiples           the search for a monomial of a list that divides another one
@@ -33,7 +32,6 @@ pub mod ArrayRows
 pub mod RowsInTurn
 pub mod LineElements
 pub mod LineLeads
-pub mod StoredBasis
 pub mod FirstElements
 pub mod Multiples
 pub mod PaddedRows

@@ -6,20 +6,17 @@
 use mathlib.Core.Path.{◌≡◌, refl, sym, ◌∙◌, ap, subst, subst₂}
 use mathlib.Core.List.Memᴰ
 use mathlib.Core.List.{List, [], ◌∷◌, map}
-use mathlib.Core.Logic.{⊎_elim}
-use Prim.Native.Nat.{ℕ, zero, suc, ◌≤◌, ◌<◌}
+use Prim.Native.Nat.{ℕ, suc, ◌<◌}
 use native.Mathlib.Nat.{mod-eq_of_lt}
 use native.Mathlib.Omega.{arith}
-use lib.ListN.{length, take, get_or, length-map}
+use lib.ListN.{length, get_or, length-map}
 use Rattle.lists.specs.Lists.{◌∈◌}
 use Rattle.lists.proofs.Elements.{place_of}
 use Rattle.residue.specs.Field.{Arithmetic, ZMod, modulo, residue}
-use Rattle.residue.specs.declared.Residue.{Residue}
 use Rattle.monomial.specs.Rows.{Row, one}
 use Rattle.monomial.specs.Represented.{row}
 use Rattle.monomial.specs.Ordering.{Monomials, Grevlex}
 use Rattle.monomial.proofs.OrderLaws.{MonomialOrder}
-use Rattle.monomial.specs.declared.Monomial.{Monomial}
 use Rattle.monomial.proofs.AnyOrder.{irreflexive}
 use Rattle.monomial.proofs.GrevlexOrder.{grevlex-order}
 use Rattle.groebner.specs.Polynomials.{Poly, all_nil, all_cons, Polynomial}
@@ -27,13 +24,13 @@ use Rattle.groebner.specs.Lines.{Line, polynomial, Falling, Lines}
 use Rattle.groebner.proofs.Lists.{of_map}
 use Rattle.groebner.proofs.Linear.{all_map}
 use Rattle.lines.specs.Terms.{Term}
-use Rattle.lines.specs.LineTerms.{terms_of, terms_in}
-use Rattle.lines.specs.Bases.{StoredBasis}
-use Rattle.lines.specs.declared.line.Generator.{Generator}
+use Rattle.lines.specs.LineTerms.{term_of, terms_in, no_term, coefficient_at, monomial_at}
+use Rattle.lines.specs.declared.line.LineTerm.{LineTerm}
+use Rattle.lines.specs.declared.StoredBasis.{StoredBasis}
 use Rattle.staircase.specs.TermLines.{line_of}
 use Rattle.staircase.specs.StoredLines.{stored_lines}
-use Rattle.staircase.specs.Sound.{coefficient_at, monomial_at, generator_at, SoundLine, Sound}
-use Rattle.staircase.proofs.LineElements.{WithinArrays, stored-lines-length, line-at, line-monomials, first-length, first-at}
+use Rattle.staircase.specs.Sound.{generator_at, SoundLine, Sound}
+use Rattle.staircase.proofs.LineElements.{stored-lines-length, line-at, rows-in-length, row-in-at, line-monomials}
 
 module _ {F M : Type 0} {𝓜 : Monomials M} {lt : M → M → Type 0} (ord : MonomialOrder 𝓜 lt) where
   pub falling-of-steps : (d : M) (f : Poly F M) → ((k : ℕ) → suc k < length f → lt (get_or (map (λ t. t.1) f) (suc k) d) (get_or (map (λ t. t.1) f) k d)) → Falling lt f
@@ -52,17 +49,13 @@ module _ {F M : Type 0} {𝓜 : Monomials M} {lt : M → M → Type 0} (ord : Mo
     proper-of-falling R f h.1 (λ u q. n u (Memᴰ.tail q)),
   )
 
--- What holds of the first coefficients of an array holds of the terms.
-of-coefficients : (P : ℕ → Type 0) (n count : ℕ) (cs : List Residue) (ms : List Monomial) → ((k : ℕ) → k < count → P (get_or cs k (record { 0 = 0 })).0)
-    → (u : Term) → u ∈ take count (terms_of n cs ms) → P u.0
-unfolding terms_of
-of-coefficients P n zero cs ms h u q = absurd (Memᴰ.not-nil q)
-of-coefficients P n (suc k) [] ms h u q = absurd (Memᴰ.not-nil q)
-of-coefficients P n (suc k) (c ∷ cs) [] h u q = absurd (Memᴰ.not-nil q)
-of-coefficients P n (suc k) (c ∷ cs) (m ∷ ms) h u q = ⊎_elim
-    (λ e. subst P (sym (ap (λ (x : Term). x.0) e)) (h 0 (omega arith)))
-    (λ r. of-coefficients P n k cs ms (λ j l. h (suc j) (omega arith)) u r)
-    (Memᴰ.cases_cons q)
+-- What holds of the coefficients of a line holds of its terms.
+of-coefficients : (P : ℕ → Type 0) (n : ℕ) (g : List LineTerm) → ((k : ℕ) → k < length g → P (coefficient_at g k)) → (u : Term) → u ∈ terms_in n g → P u.0
+unfolding terms_in term_of coefficient_at
+of-coefficients P n g h u q =
+    let (t, r, e) = of_map (term_of n) g q in
+    let (k, l, f) = place_of no_term r in
+    subst P (ap (λ (x : LineTerm). x.coefficient.0) f ∙ sym (ap (λ (x : Term). x.0) e)) (h k l)
 
 module _ (p : ℕ) (h : 1 < p) (n : ℕ) where
   residue-nonzero : (x : ℕ) → 0 < x → x < p → ¬ (residue p h x ≡ (modulo p h).zero)
@@ -77,26 +70,25 @@ module _ (p : ℕ) (h : 1 < p) (n : ℕ) where
       let (low, high) = a u (Memᴰ.tail r) in
       residue-nonzero u.0 low high (sym (ap (λ (y : ZMod p × Row n). y.0) e) ∙ z)
 
-  module _ (g : Generator) (s : SoundLine p n g) (filled : g.terms ≤ length g.monomials) where
+  module _ (g : List LineTerm) (s : SoundLine p n g) where
     abbrev line : Line (ZMod p) (Row n)
     line = line_of p h n (terms_in n g)
 
-    monomial-at : (k : ℕ) → k < g.terms → get_or (map (λ t. t.1) (polynomial (modulo p h) line)) k (one n) ≡ row n (monomial_at g k)
-    monomial-at k l = ap (λ (x : List (Row n)). get_or x k (one n)) (line-monomials p h n g s filled) ∙ first-at p h n g s filled k l
+    monomial-at : (k : ℕ) → get_or (map (λ t. t.1) (polynomial (modulo p h) line)) k (one n) ≡ row n (monomial_at g k)
+    monomial-at k = ap (λ (x : List (Row n)). get_or x k (one n)) (line-monomials p h n g s.some) ∙ row-in-at n g k
 
-    many : length (polynomial (modulo p h) line) ≡ g.terms
-    many = sym (length-map (polynomial (modulo p h) line) (λ t. t.1)) ∙ ap length (line-monomials p h n g s filled) ∙ first-length p h n g s filled
+    many : length (polynomial (modulo p h) line) ≡ length g
+    many = sym (length-map (polynomial (modulo p h) line) (λ t. t.1)) ∙ ap length (line-monomials p h n g s.some) ∙ rows-in-length n g
 
     line-falling : Falling (Grevlex n) (polynomial (modulo p h) line)
     line-falling = falling-of-steps (grevlex-order n) (one n) (polynomial (modulo p h) line)
-        (λ k l. subst₂ (Grevlex n) (sym (monomial-at (suc k) (omega (arith, many)))) (sym (monomial-at k (omega (arith, many)))) (s.falling k (omega (arith, many))))
+        (λ k l. subst₂ (Grevlex n) (sym (monomial-at (suc k))) (sym (monomial-at k)) (s.falling k (omega (arith, many))))
 
     line-proper : Falling (Grevlex n) line.1 → Polynomial (modulo p h) line.1
-    unfolding terms_in coefficient_at
     line-proper f = proper-of-falling (grevlex-order n) (modulo p h) line.1 f
-        (tail-nonzero (terms_in n g) (of-coefficients (λ x. (0 < x) × (x < p)) n g.terms g.coefficients g.monomials s.coefficients))
+        (tail-nonzero (terms_in n g) (of-coefficients (λ x. (0 < x) × (x < p)) n g s.coefficients))
 
-module _ (b : StoredBasis) (sound : Sound b) (filled : WithinArrays b) (h : 1 < b.p) where
+module _ (b : StoredBasis) (sound : Sound b) (h : 1 < b.p) where
   abbrev Good : Line (ZMod b.p) (Row b.n) → Type 0
   Good g = Falling (Grevlex b.n) (polynomial (modulo b.p h) g) × Polynomial (modulo b.p h) g.1
 
@@ -104,9 +96,9 @@ module _ (b : StoredBasis) (sound : Sound b) (filled : WithinArrays b) (h : 1 < 
   unfolding polynomial
   good g q =
       let (k, l, e) = place_of (one b.n, []) q in
-      let l' : k < b.lines = omega (arith, stored-lines-length b h filled.lines) in
-      let f = line-falling b.p h b.n (generator_at b k) (sound.lines k l') (filled.terms k l') in
-      subst Good (sym (line-at b h k l') ∙ e) (f, line-proper b.p h b.n (generator_at b k) (sound.lines k l') (filled.terms k l') f.1)
+      let s = sound.lines k (omega (arith, stored-lines-length b h)) in
+      let f = line-falling b.p h b.n (generator_at b k) s in
+      subst Good (sym (line-at b h k) ∙ e) (f, line-proper b.p h b.n (generator_at b k) s f.1)
 
   pub sound-lines : Lines (modulo b.p h) (Grevlex b.n) (stored_lines b h)
   unfolding polynomial

@@ -17,7 +17,7 @@ pub fn leads_of(basis: &StoredBasis) -> Leads
     ensures { result.items ≡ leads_in basis.now }
 {
     let mut l = Leads::new();
-    for g in &basis.lines {
+    for g in basis.lines.iter() {
         l.push(lead(g));
     }
     l

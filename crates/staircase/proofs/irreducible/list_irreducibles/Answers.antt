@@ -26,7 +26,7 @@ returns-then-full c = (collected-full (so_far (goal.at.returns-then-full c).In-S
 pub next-m-requires : goal.next-m-requires
 next-m-requires c =
     let s = so_far (goal.at.next-m-requires c).In-Some in
-    (c.requires.most, rw (ranking (goal.at.next-m-requires c).At-loop-m) (variables-ranking _), s.held, collected-small s)
+    (rw (ranking (goal.at.next-m-requires c).At-loop-m) (variables-ranking _), s.held, collected-small s)
 
 pub loop-m-preserved : goal.loop-m-preserved
 loop-m-preserved c =
