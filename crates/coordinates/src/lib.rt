@@ -7,7 +7,7 @@
 
 ghost use Rattle.std.specs.Prelude.{◌≡◌, ℕ, ◌<◌};
 ghost use Rattle.lines.specs.Sizes.{most_standard};
-ghost use Rattle.coordinates.specs.Vectors.{coordinate, indicator};
+ghost use Rattle.coordinates.specs.Vectors.{coordinate, indicator, Represents, unit_vector};
 
 use lines::sizes::MAX_STANDARD;
 use residue::Residue;
@@ -30,13 +30,15 @@ impl Coordinates {
         }
     }
 
-    // 1 at place k, 0 elsewhere.
+    // 1 at place k, 0 elsewhere; all 0 if there is no place k.
     pub fn unit(k: usize) -> Coordinates
-        requires { k < most_standard }
-        ensures { (j : ℕ) → coordinate result j ≡ indicator j k }
+        ensures place { k < most_standard → (j : ℕ) → coordinate result j ≡ indicator j k }
+        ensures represents { (p : ℕ) → 1 < p → Represents p result (unit_vector p k) }
     {
         let mut r = Coordinates::zero();
-        r.c[k] = Residue::ONE;
+        if k < MAX_STANDARD {
+            r.c[k] = Residue::ONE;
+        }
         r
     }
 }

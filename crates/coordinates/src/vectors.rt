@@ -1,7 +1,7 @@
 // Multiples and differences of vectors, their first nonzero places, and whether two are the same. No turn of a loop divides.
 ghost use Rattle.std.specs.Prelude.{◌≡◌, true, ◌↔◌, ℕ, ◌<◌, ◌≤◌};
 ghost use Rattle.lines.specs.Sizes.{most_standard};
-ghost use Rattle.coordinates.specs.Vectors.{coordinate, Below, Cut, Represents, subtracted, multiplied, unit_vector, FirstPlace};
+ghost use Rattle.coordinates.specs.Vectors.{coordinate, Below, Cut, Represents, subtracted, multiplied, FirstPlace};
 
 use crate::Coordinates;
 use lines::sizes::MAX_STANDARD;
@@ -36,18 +36,6 @@ pub fn multiply(c: Residue, a: Coordinates, field: PrimeField) -> Coordinates
         r.c[k] = field.reduce(c.0 * a.c[k].0);
     }
     r
-}
-
-// 1 at place k, 0 elsewhere; all 0 if there is no place k.
-pub fn unit(k: usize, p: u16) -> Coordinates
-    requires { 1 < p }
-    ensures { Represents p result (unit_vector p k) }
-{
-    if k < MAX_STANDARD {
-        Coordinates::unit(k)
-    } else {
-        Coordinates::zero()
-    }
 }
 
 // The first `count` coefficients, and zeros after them.
