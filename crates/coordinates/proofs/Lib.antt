@@ -1,13 +1,11 @@
 -- The theorems of the crate `coordinates`, besides those of its functions:
 --   UnitRows        vectors that are 1 at one place and 0 elsewhere, by their coefficients
 --   VectorEntries   lists of residues, from the entries of vectors of the code
---   FilledVectors   the loops of `subtract_multiple` and `multiply`
 --   UnitVectors     vectors that are one at one place, as lists of residues
 --   FirstPlaces     the first place of a vector that is not zero
 --   RowArrays       rows in an array of numbers
 pub mod UnitRows
 pub mod VectorEntries
-pub mod FilledVectors
 pub mod UnitVectors
 pub mod FirstPlaces
 pub mod RowArrays

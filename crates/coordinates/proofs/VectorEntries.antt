@@ -1,5 +1,6 @@
 -- Lists of residues, from the entries of vectors of the code.
 --   past_end             past the end of a vector there are zeros
+--   below-of             coefficients are below p at all places where they are at those of the vector
 --   residue-less         the residue of a + (p - c)·b is that of a - c·b
 --   vector-entry         an entry of a vector as a residue
 --   length-vector        as many as the vector has
@@ -9,8 +10,10 @@
 --   subtracted-none      a - 0·b is a
 use mathlib.Core.Path.{◌≡◌, sym, ◌∙◌, ap, ap₂}
 use mathlib.Core.List.{List, map}
+use mathlib.Core.Logic.{by_cases}
 use Prim.Native.Nat.{ℕ, ◌+◌, ◌-◌, ◌*◌, ◌%◌, ◌<◌, ◌≤◌}
 use native.Mathlib.Nat.{add-mod, mod-mod, add-mul-mod_self_left, mod-eq_of_lt}
+use native.Mathlib.Decide.{dec_lt}
 use native.Mathlib.Omega.{arith}
 use lib.ListN.{length, get_or, length-map, get_or-map, get_or-eq_default}
 use lib.Seq.{ext_get_or}
@@ -54,12 +57,15 @@ module _ (p : ℕ) (h : 1 < p) where
   pub vector-is : (w : Coordinates) (l : List (ZMod p)) → length w.c ≡ length l → ((k : ℕ) → k < length l → residue p h (coordinate w k) ≡ get_or l k (modulo p h).zero) → vector p h w ≡ l
   vector-is w l s e = ext_get_or (modulo p h).zero (vector p h w) l (length-vector w ∙ s) (λ k m. vector-entry w k ∙ e k (omega (arith, length-vector w)))
 
-module _ (p : ℕ) (r : Coordinates) (whole : FullLength r) (below : Below p r) where
+pub below-of : (p : ℕ) (w : Coordinates) → FullLength w → 0 < p → ((k : ℕ) → k < most_standard → coordinate w k < p) → Below p w
+below-of p w whole o b = record { below = λ k. by_cases (dec_lt k most_standard) (b k) (λ m. omega (arith, past_end w k (omega (arith, whole)))) }
+
+module _ (p : ℕ) (r : Coordinates) (whole : FullLength r) (o : 0 < p) where
   pub subtracted-entries : (a b : Coordinates) (c : ℕ) → FullLength a → FullLength b → c < p
       → ((k : ℕ) → k < most_standard → coordinate r k ≡ (coordinate a k + (p - c) * coordinate b k) % p) → Represents p r (subtracted p a c b)
   subtracted-entries a b c u v m e = record {
     whole = whole;
-    below = below;
+    below = below-of p r whole o (λ k l. omega (arith, e k l));
     residues = λ h. vector-is p h r _ (whole ∙ sym (size h)) (λ k l. ap (residue p h) (e k (omega (arith, l, size h)))
         ∙ residue-less p h (coordinate a k) c (coordinate b k) m
         ∙ sym (entry-subtract (residue-ring p h) (vector p h a) (residue p h c) (vector p h b) k
@@ -73,7 +79,7 @@ module _ (p : ℕ) (r : Coordinates) (whole : FullLength r) (below : Below p r) 
       → ((k : ℕ) → k < most_standard → coordinate r k ≡ c * coordinate a k % p) → Represents p r (multiplied p c a)
   multiplied-entries a c u e = record {
     whole = whole;
-    below = below;
+    below = below-of p r whole o (λ k l. omega (arith, e k l));
     residues = λ h. vector-is p h r _ (whole ∙ sym (size h)) (λ k l. ap (residue p h) (e k (omega (arith, l, size h)))
         ∙ residue-times p h c (coordinate a k)
         ∙ sym (entry-multiply (residue-ring p h) (residue p h c) (vector p h a) k ∙ ap ((modulo p h).mul (residue p h c)) (vector-entry p h a k)));
@@ -83,7 +89,7 @@ module _ (p : ℕ) (r : Coordinates) (whole : FullLength r) (below : Below p r) 
       size h = length-multiply (modulo p h) (residue p h c) (vector p h a) ∙ length-vector p h a ∙ u
 
 pub subtracted-none : (p : ℕ) (a b : Coordinates) (c : ℕ) → FullLength a → FullLength b → Below p a → c < p → c ≡ 0 → Represents p a (subtracted p a c b)
-subtracted-none p a b c u v m l e = subtracted-entries p a u m a b c u v l (λ k _. sym (same (coordinate a k) (coordinate b k) (m.below k)))
+subtracted-none p a b c u v m l e = subtracted-entries p a u (omega arith) a b c u v l (λ k _. sym (same (coordinate a k) (coordinate b k) (m.below k)))
   where
     same : (x y : ℕ) → x < p → (x + (p - c) * y) % p ≡ x
     same x y h = let d : p - c ≡ p = omega arith in rw d (add-mul-mod_self_left x p y ∙ mod-eq_of_lt h)

@@ -1,4 +1,5 @@
 -- Inner contracts. Vectors of residues that the code holds, and as lists of residues.
+--   residue_at w k         coefficient k
 --   coordinate w k         coefficient k, as a number
 --   Below p w              all coefficients are below p
 --   indicator j k          1 where j is k, and 0 elsewhere
@@ -13,13 +14,18 @@
 --   FirstPlace a o         o is the first place of a that is not zero, or says that there is none
 use Rattle.std.specs.Prelude.{◌≡◌, true, false, List, map, ℕ, ◌<◌, ◌≤◌, length, get_or, eqb, Option, Some, None}
 use Rattle.residue.specs.Field.{ZMod, modulo, residue}
+use Rattle.residue.specs.declared.Residue.{Residue}
 use Rattle.groebner.specs.CoefficientRows.{subtract_multiple, multiply, unit_array}
 use Rattle.lines.specs.Sizes.{most_standard}
 use Rattle.coordinates.specs.declared.Coordinates.{Coordinates}
 
 -- Coefficient k.
+abbrev pub residue_at : Coordinates → ℕ → Residue
+residue_at w k = get_or w.c k (record { 0 = 0 })
+
+-- Coefficient k, as a number.
 abbrev pub coordinate : Coordinates → ℕ → ℕ
-coordinate w k = (get_or w.c k (record { 0 = 0 })).0
+coordinate w k = (residue_at w k).0
 
 -- All coefficients are below p.
 pub record Below (p : ℕ) (w : Coordinates) : Type 0 where

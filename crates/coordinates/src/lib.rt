@@ -7,7 +7,7 @@
 
 ghost use Rattle.std.specs.Prelude.{◌≡◌, ℕ, ◌<◌};
 ghost use Rattle.lines.specs.Sizes.{most_standard};
-ghost use Rattle.coordinates.specs.Vectors.{coordinate, indicator, Represents, unit_vector};
+ghost use Rattle.coordinates.specs.Vectors.{residue_at, coordinate, indicator, Represents, unit_vector};
 
 use lines::sizes::MAX_STANDARD;
 use residue::Residue;
@@ -15,7 +15,8 @@ use residue::Residue;
 pub mod rows;
 pub mod vectors;
 
-// Coefficient k is that of the monomial at place k of a list.
+// Coefficient k is that of the monomial at place k of a list. That it is below p is a clause of the functions, `Below p`: p is the modulus of the field
+// in use, which a vector does not hold.
 #[derive(Clone, Copy)]
 pub struct Coordinates {
     pub c: [Residue; MAX_STANDARD],
@@ -28,6 +29,18 @@ impl Coordinates {
         Coordinates {
             c: [Residue::ZERO; MAX_STANDARD],
         }
+    }
+
+    // The vector whose coefficient at each place k is f(k).
+    fn tabulate<F: Fn(usize) -> Residue>(f: F) -> Coordinates
+        requires { (k : ℕ) → k < most_standard → F.pre f k }
+        ensures { (k : ℕ) → k < most_standard → F.post f k (residue_at result k) }
+    {
+        let mut r = Coordinates::zero();
+        for k in 0..MAX_STANDARD {
+            r.c[k] = f(k);
+        }
+        r
     }
 
     // 1 at place k, 0 elsewhere; all 0 if there is no place k.

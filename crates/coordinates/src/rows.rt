@@ -14,11 +14,7 @@ pub fn row_at(cells: &[u16], at: usize) -> Coordinates
     requires { at + most_standard ≤ length cells.now }
     ensures { result ≡ row_in cells.now at }
 {
-    let mut r = Coordinates::zero();
-    for k in 0..MAX_STANDARD {
-        r.c[k] = Residue(cells[at + k]);
-    }
-    r
+    Coordinates::tabulate(|k| Residue(cells[at + k]))
 }
 
 // A row is stored, its first coefficient at a place.
@@ -33,7 +29,7 @@ pub fn put_row(cells: &mut [u16], at: usize, row: Coordinates)
 
 // r + c times the row at a place.
 pub fn add_multiple(
-    mut r: Coordinates,
+    r: Coordinates,
     c: u16,
     cells: &[u16],
     at: usize,
@@ -42,8 +38,5 @@ pub fn add_multiple(
     requires { (at + most_standard ≤ length cells.now) × (c < field.p) × Below field.p r × Below field.p (row_in cells.now at) }
     ensures { AddedMultiple field.p r c (row_in cells.now at) result }
 {
-    for k in 0..MAX_STANDARD {
-        r.c[k] = field.reduce(r.c[k].0 + c * cells[at + k]);
-    }
-    r
+    Coordinates::tabulate(|k| field.reduce(r.c[k].0 + c * cells[at + k]))
 }

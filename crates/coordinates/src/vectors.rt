@@ -19,11 +19,7 @@ pub fn subtract_multiple(
     ensures { Represents field.p result (subtracted field.p a c.0 other) }
 {
     let minus_c = field.p - c.0;
-    let mut r = a;
-    for k in 0..MAX_STANDARD {
-        r.c[k] = field.reduce(a.c[k].0 + minus_c * other.c[k].0);
-    }
-    r
+    Coordinates::tabulate(|k| field.reduce(a.c[k].0 + minus_c * other.c[k].0))
 }
 
 // c·a
@@ -31,11 +27,7 @@ pub fn multiply(c: Residue, a: Coordinates, field: PrimeField) -> Coordinates
     requires { (c.0 < field.p) × Below field.p a }
     ensures { Represents field.p result (multiplied field.p c.0 a) }
 {
-    let mut r = a;
-    for k in 0..MAX_STANDARD {
-        r.c[k] = field.reduce(c.0 * a.c[k].0);
-    }
-    r
+    Coordinates::tabulate(|k| field.reduce(c.0 * a.c[k].0))
 }
 
 // The first `count` coefficients, and zeros after them.
