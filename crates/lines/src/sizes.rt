@@ -13,6 +13,7 @@ pub const MAX_TERMS: usize = MAX_STANDARD + 1;
 // Poly lines.
 pub const MAX_LINES: usize = MAX_VARIABLES * MAX_STANDARD - (MAX_STANDARD - 1);
 
+// One for each constant, whose value it says; a generic one would still be told which.
 pub fn max_standard() -> usize
     ensures { result ≡ most_standard }
 {

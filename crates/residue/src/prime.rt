@@ -5,6 +5,7 @@ ghost use Rattle.residue.specs.Prime.{Modulus, largest_modulus};
 // The largest modulus, which the definitions have as largest_modulus.
 pub const LARGEST_MODULUS: u16 = 251;
 
+// One for each constant, whose value it says; a generic one would still be told which.
 pub fn largest_modulus() -> u16
     ensures { result ≡ largest_modulus }
 {
