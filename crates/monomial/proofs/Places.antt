@@ -3,11 +3,18 @@
 --   exponent-front     so it is among the first n places
 --   exponents-at       in the array of a row, the exponent of variable i stands at place i
 --   exponents-length   the array of a row of n exponents has n places
+--   equal-rows         the first exponents of two arrays are equal exactly if their rows are
 --   row-monomial       the value with the exponents a holds the row a
 --   degree-more        one exponent more is added to the total degree
 use mathlib.Core.Path.{◌≡◌, refl, sym, ◌∙◌, ap}
 use mathlib.Core.List.{List, [], ◌∷◌, ◌++◌}
-use Prim.Native.Nat.{ℕ, zero, suc, ◌+◌, ◌<◌}
+use Prim.Native.Nat.{ℕ, zero, suc, ◌+◌, ◌≤◌, ◌<◌}
+use mathlib.Core.Bool.{Bool, true}
+use mathlib.Core.Logic.{◌↔◌}
+use borrow.Author.Tests.{eqb-true, eq-eqb}
+use lib.Dec.{eqb}
+use lib.Pointwise.{pointwise}
+use Rattle.std.proofs.lemmas.Bool.{and_parts}
 use native.Mathlib.Numerals.{add-one}
 use native.Mathlib.Omega.{arith}
 use lib.ListN.{length, get_or, take}
@@ -40,6 +47,21 @@ pub exponents-length : (n : ℕ) (a : Row n) → length (exponent_list n a) ≡ 
 unfolding exponent_list
 exponents-length zero a = refl
 exponents-length (suc n) a = ap suc (exponents-length n a.1)
+
+-- The test of two exponents.
+abbrev same : Exponent → Exponent → Bool
+same x y = eqb x.0 y.0
+
+pub equal-rows : (n : ℕ) (k l : List Exponent) → n ≤ length k → n ≤ length l → (pointwise same (take n k) (take n l) ≡ true) ↔ (row_of n k ≡ row_of n l)
+unfolding row_of
+equal-rows zero k l h u = (λ e. refl, λ e. refl)
+equal-rows (suc n) [] l h u = absurd (omega arith)
+equal-rows (suc n) (x ∷ k) [] h u = absurd (omega arith)
+equal-rows (suc n) (x ∷ k) (y ∷ l) h u =
+    let (p, q) = equal-rows n k l (omega arith) (omega arith) in (
+      λ e. let (a, b) = and_parts _ _ e in λ i. (eqb-true x.0 y.0 a i, p b i),
+      λ e. rw (eq-eqb x.0 y.0 (ap (λ (r : Row (suc n)). r.0) e)) (q (ap (λ (r : Row (suc n)). r.1) e)),
+    )
 
 row-exponents : (n : ℕ) (a : Row n) (l : List Exponent) → row_of n (exponent_list n a ++ l) ≡ a
 unfolding row_of exponent_list

@@ -2,6 +2,7 @@
 //
 //   Exponent      an exponent, a type of its own so that a coefficient cannot pass as one
 //   Monomial      a row of exponents; the places from n on are 0
+//   count         the number of variables
 //   order         three-way comparison in grevlex, and rankings of the variables
 //   arithmetic    product, quotient, least common multiple
 //   divisibility  divides, and the test for a power of one variable
@@ -21,7 +22,6 @@ pub mod order;
 pub mod rank;
 pub mod variable;
 
-
 // The largest number of variables, which the definitions have as most_variables.
 pub const MAX_VARIABLES: usize = 4;
 
@@ -38,7 +38,7 @@ pub struct Monomial {
 
 impl Monomial {
     // The exponent of variable i, counted from 0.
-    fn exponent(self, i: usize) -> Exponent
+    pub fn exponent(self, i: usize) -> Exponent
         requires { i < most_variables }
         ensures { (n : ℕ) → i < n → result.0 ≡ exponent n (row n self) i }
     {
@@ -46,6 +46,7 @@ impl Monomial {
     }
 }
 
+// One for each constant, whose value it says; a generic one would still be told which.
 pub fn max_variables() -> usize
     ensures { result ≡ most_variables }
 {
