@@ -1,5 +1,5 @@
 -- Polynomials that are added to an array of coefficients.
---   work-place      there is room for each monomial of at most the largest degree
+--   work-place      there is room for each monomial of at most the largest degree in at most four variables
 --   adds_none       nothing is added
 --   adds-append     one polynomial after another
 --   adds_same       what is added is known by its coefficients
@@ -18,6 +18,7 @@ use Rattle.residue.specs.Field.{ZMod, modulo, residue}
 use Rattle.residue.proofs.ResidueField.{residue-ring}
 use Rattle.residue.proofs.Residues.{residue-below}
 use Rattle.residue.proofs.ModularLaws.{sum-zero, sum-assoc}
+use Rattle.monomial.specs.Sizes.{most_variables}
 use Rattle.monomial.specs.Rows.{Row, degree}
 use Rattle.monomial.specs.Ordering.{monomials, row?}
 use Rattle.groebner.specs.Polynomials.{Poly, coef, Same}
@@ -27,8 +28,8 @@ use Rattle.division.specs.CoefficientArray.{HoldsPolynomial, Residues, Work, Add
 use Rattle.division.proofs.PlaceSums.{place-fits}
 use Rattle.division.proofs.GrevlexPlaces.{place-injective}
 
-pub work-place : (p n : ℕ) {w : List ℕ} (m : Row n) → Work p n w → degree n m ≤ most_degree → (place n m < space) × (place n m < length w)
-work-place p n m k l = let h = place-fits n m (record { variables = k.variables.most; low = l }) in (h, omega (arith, h, k.room))
+pub work-place : (p n : ℕ) {w : List ℕ} (m : Row n) → Work p n w → n ≤ most_variables → degree n m ≤ most_degree → (place n m < space) × (place n m < length w)
+work-place p n m k v l = let h = place-fits n m v l in (h, omega (arith, h, k.room))
 
 module _ (p n : ℕ) where
   pub adds_none : (w : List ℕ) → Residues p n w → AddsPolynomial p n w w (λ h. [])
@@ -55,7 +56,6 @@ module _ (p n : ℕ) where
   unfolding sum_mod
   adds-work {w} {w'} k a = record {
     modulus = k.modulus;
-    variables = k.variables;
     room = omega (arith, a.length, k.room);
     residues = λ m. rw (a.sums k.modulus.prime.above_one m) (mod-lt _ (omega (arith, k.modulus.prime.above_one)));
   }

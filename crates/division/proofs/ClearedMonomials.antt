@@ -11,7 +11,7 @@ use Prim.Native.Nat.{ℕ}
 use lib.ListN.{get_or}
 use Rattle.residue.specs.Modular.{negation_mod}
 use Rattle.monomial.specs.Rows.{Row}
-use Rattle.lines.specs.Bases.{StoredBasis}
+use Rattle.lines.specs.declared.StoredBasis.{StoredBasis}
 use Rattle.division.specs.GrevlexPlace.{place}
 use Rattle.division.specs.CoefficientArray.{AddsPolynomial}
 use Rattle.division.specs.Clearing.{line_multiple}

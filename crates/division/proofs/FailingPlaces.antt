@@ -11,7 +11,7 @@ use Rattle.monomial.specs.Rows.{Row, one}
 use Rattle.monomial.specs.Ordering.{monomials, Grevlex}
 use Rattle.groebner.specs.Lines.{Line}
 use Rattle.groebner.specs.Bases.{SPolynomial}
-use Rattle.lines.specs.Bases.{StoredBasis}
+use Rattle.lines.specs.declared.StoredBasis.{StoredBasis}
 use Rattle.staircase.specs.StoredLines.{stored_lines}
 use Rattle.staircase.specs.Conditions.{On, Failing}
 use Rattle.staircase.proofs.LineElements.{stored-lines-length, line-at}
@@ -20,32 +20,32 @@ use Rattle.staircase.proofs.DividedPlaces.{on-iff}
 use Rattle.division.specs.Clearing.{line_at}
 use Rattle.division.specs.PairRemainders.{PairFails}
 
-module _ (b : StoredBasis) (h : 1 < b.p) (filled : b.lines ≤ length b.generators) where
+module _ (b : StoredBasis) (h : 1 < b.p) where
   -- The line of that number.
-  line-on-iff : (k : ℕ) (g : Line (ZMod b.p) (Row b.n)) → On (stored_lines b h) k g ↔ ((i : ℕ) × (k ≡ i + 2) × (i < b.lines) × (g ≡ line_at b h i))
+  line-on-iff : (k : ℕ) (g : Line (ZMod b.p) (Row b.n)) → On (stored_lines b h) k g ↔ ((i : ℕ) × (k ≡ i + 2) × (i < length b.lines.items) × (g ≡ line_at b h i))
   line-on-iff k g = (
     λ o.
         let (i, e, l, q) = (on-iff (one b.n, []) (stored_lines b h) k g).0 o in
-        let m : i < b.lines = omega (arith, stored-lines-length b h filled) in
-        (i, e, m, q ∙ line-at b h i m),
-    λ (i, e, l, q). (on-iff (one b.n, []) (stored_lines b h) k g).1 (i, e, omega (arith, stored-lines-length b h filled), q ∙ sym (line-at b h i l)),
+        let m : i < length b.lines.items = omega (arith, stored-lines-length b h) in
+        (i, e, m, q ∙ line-at b h i),
+    λ (i, e, l, q). (on-iff (one b.n, []) (stored_lines b h) k g).1 (i, e, omega (arith, stored-lines-length b h), q ∙ sym (line-at b h i)),
   )
 
   -- Line j and an earlier line fail.
   abbrev FailsAt : ℕ → Type 0
   FailsAt j = (i : ℕ) × (i < j) × PairFails b h i j
 
-  pub failing-places : ByPlaces (Failing (modulo b.p h) (monomials b.n) (stored_lines b h) (Grevlex b.n)) FailsAt b.lines
+  pub failing-places : ByPlaces (Failing (modulo b.p h) (monomials b.n) (stored_lines b h) (Grevlex b.n)) FailsAt (length b.lines.items)
   failing-places k = (to, from)
     where
-      to : Failing (modulo b.p h) (monomials b.n) (stored_lines b h) (Grevlex b.n) k → (j : ℕ) × (k ≡ j + 2) × (j < b.lines) × FailsAt j
+      to : Failing (modulo b.p h) (monomials b.n) (stored_lines b h) (Grevlex b.n) k → (j : ℕ) × (k ≡ j + 2) × (j < length b.lines.items) × FailsAt j
       to f =
           let (i, e, l, p) = (line-on-iff f.j f.f).0 f.earlier in
           let (j, e', l', q) = (line-on-iff k f.g).0 f.later in
           let pair = subst₂ (λ x y. SPolynomial (modulo b.p h) (monomials b.n) x y f.s) p q f.pair in
           (j, e', l', (i, omega (arith, f.before), record { s = f.s; pair = pair; r = f.r; remainder = f.remainder; nonzero = f.nonzero }))
 
-      from : (j : ℕ) × (k ≡ j + 2) × (j < b.lines) × FailsAt j → Failing (modulo b.p h) (monomials b.n) (stored_lines b h) (Grevlex b.n) k
+      from : (j : ℕ) × (k ≡ j + 2) × (j < length b.lines.items) × FailsAt j → Failing (modulo b.p h) (monomials b.n) (stored_lines b h) (Grevlex b.n) k
       from (j, e, l, (i, m, f)) = record {
         f = line_at b h i;
         g = line_at b h j;

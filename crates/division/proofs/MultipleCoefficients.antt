@@ -5,6 +5,7 @@
 use mathlib.Core.Path.{◌≡◌, sym, ◌∙◌, ap, subst}
 use mathlib.Core.Bool.{true}
 use Prim.Native.Nat.{ℕ, ◌<◌}
+use lib.ListN.{length}
 use Rattle.residue.specs.Field.{Arithmetic, ZMod, modulo, residue}
 use Rattle.residue.proofs.ResidueField.{residue-ring}
 use Rattle.monomial.specs.Rows.{Row, product}
@@ -17,20 +18,19 @@ use Rattle.groebner.specs.Lines.{Line}
 use Rattle.groebner.proofs.Modules.{mul-zero}
 use Rattle.groebner.proofs.Terms.{coef-scale}
 use Rattle.groebner.proofs.Division.{coef-lead, coef-above}
-use Rattle.lines.specs.Bases.{StoredBasis}
+use Rattle.lines.specs.declared.StoredBasis.{StoredBasis}
 use Rattle.staircase.specs.StoredLines.{stored_lines}
 use Rattle.staircase.specs.Sound.{Sound}
-use Rattle.staircase.proofs.LineElements.{WithinArrays}
 use Rattle.division.specs.Clearing.{lead_at, line_at, multiple_of, line_multiple}
 use Rattle.division.proofs.BasisSystem.{ring_of, lines-low, line-in, line-lead-at}
 
-pub raised : (b : StoredBasis) (sound : Sound b) (k : ℕ) → k < b.lines → (m : Row b.n) → divides b.n (lead_at b k) m ≡ true → (h : 1 < b.p)
+pub raised : (b : StoredBasis) (k : ℕ) (m : Row b.n) → divides b.n (lead_at b k) m ≡ true → (h : 1 < b.p)
     → m ≡ (monomials b.n).mul (quotient b.n m (lead_at b k)) (line_at b h k).0
 unfolding monomials
-raised b sound k l m d h = sym (product-quotient b.n m (lead_at b k) d)
-    ∙ ap (product b.n (quotient b.n m (lead_at b k))) (sym (line-lead-at b sound h k l))
+raised b k m d h = sym (product-quotient b.n m (lead_at b k) d)
+    ∙ ap (product b.n (quotient b.n m (lead_at b k))) (sym (line-lead-at b h k))
 
-module _ (b : StoredBasis) (sound : Sound b) (filled : WithinArrays b) (k : ℕ) (l : k < b.lines)
+module _ (b : StoredBasis) (sound : Sound b) (k : ℕ) (l : k < length b.lines.items)
     (m : Row b.n) (d : divides b.n (lead_at b k) m ≡ true) (h : 1 < b.p) where
   abbrev R : Arithmetic (ZMod b.p)
   R = modulo b.p h
@@ -45,13 +45,13 @@ module _ (b : StoredBasis) (sound : Sound b) (filled : WithinArrays b) (k : ℕ)
   pub multiple-top : (c : ℕ) → coef R (monomials b.n) (line_multiple b k c m h) m ≡ residue b.p h c
   unfolding multiple_of
   multiple-top c =
-      let lead = coef-lead (ring_of b sound h) (grevlex-order b.n) (stored_lines b h) (lines-low b sound h filled) g (line-in b h filled.lines k l) u in
+      let lead = coef-lead (ring_of b sound h) (grevlex-order b.n) (stored_lines b h) (lines-low b sound h) g (line-in b h k l) u in
       coef-scale (residue-ring b.p h) (monomials b.n) (residue b.p h c) _ m
-      ∙ ap (R.mul (residue b.p h c)) (ap (coef R (monomials b.n) _) (raised b sound k l m d h) ∙ lead) ∙ (residue-ring b.p h).mul_one _
+      ∙ ap (R.mul (residue b.p h c)) (ap (coef R (monomials b.n) _) (raised b k m d h) ∙ lead) ∙ (residue-ring b.p h).mul_one _
 
   pub multiple-above : (c : ℕ) (a : Row b.n) → Grevlex b.n m a → coef R (monomials b.n) (line_multiple b k c m h) a ≡ R.zero
   unfolding multiple_of
   multiple-above c a o =
-      let above = coef-above (ring_of b sound h) (grevlex-order b.n) (stored_lines b h) (lines-low b sound h filled) g (line-in b h filled.lines k l) u a in
+      let above = coef-above (ring_of b sound h) (grevlex-order b.n) (stored_lines b h) (lines-low b sound h) g (line-in b h k l) u a in
       coef-scale (residue-ring b.p h) (monomials b.n) (residue b.p h c) _ a
-      ∙ ap (R.mul (residue b.p h c)) (above (subst (λ x. Grevlex b.n x a) (raised b sound k l m d h) o)) ∙ mul-zero (residue-ring b.p h) _
+      ∙ ap (R.mul (residue b.p h c)) (above (subst (λ x. Grevlex b.n x a) (raised b k m d h) o)) ∙ mul-zero (residue-ring b.p h) _

@@ -12,6 +12,7 @@ use mathlib.Core.Logic.{◌↔◌}
 use Prim.Native.Nat.{ℕ, ◌<◌}
 use native.Mathlib.Decide.{ℕ_discrete}
 use native.Mathlib.Omega.{arith}
+use lib.ListN.{length}
 use Rattle.residue.specs.Modular.{sum_mod, negation_mod}
 use Rattle.residue.specs.Field.{Arithmetic, ZMod, modulo, residue}
 use Rattle.residue.proofs.ResidueField.{residue-ring}
@@ -32,10 +33,9 @@ use Rattle.groebner.proofs.Ground.{PolynomialRing, divides-antisym, cancel_right
 use Rattle.groebner.proofs.Division.{remainder, remainder-unique}
 use Rattle.groebner.proofs.NormalForms.{NF}
 use Rattle.groebner.proofs.Buchberger.{zero-iff-NF}
-use Rattle.lines.specs.Bases.{StoredBasis}
+use Rattle.lines.specs.declared.StoredBasis.{StoredBasis}
 use Rattle.staircase.specs.StoredLines.{stored_lines}
 use Rattle.staircase.specs.Sound.{Sound}
-use Rattle.staircase.proofs.LineElements.{WithinArrays}
 use Rattle.division.specs.GrevlexPlace.{place}
 use Rattle.division.specs.CoefficientArray.{HoldsPolynomial, HoldsZero, ZeroAbove, AddsPolynomial}
 use Rattle.division.specs.Clearing.{lead_at, line_at, multiple_of, line_multiple, Dividend, Sweeps}
@@ -78,7 +78,7 @@ module _ (p : ℕ) (h : 1 < p) where
       (ap (λ x. coef F (monomials n) (scale F x g) k) residue-minus-one)
       ∙ sym (coef-append laws (monomials n) f (scale F (F.neg F.one) g) k)
 
-module _ (b : StoredBasis) (sound : Sound b) (filled : WithinArrays b) (i j : ℕ) (li : i < b.lines) (lj : j < b.lines) where
+module _ (b : StoredBasis) (sound : Sound b) (i j : ℕ) (li : i < length b.lines.items) (lj : j < length b.lines.items) where
   -- The least common multiple, and its quotients by the leading monomials.
   abbrev m : Row b.n
   m = leads_lcm b i j
@@ -110,21 +110,21 @@ module _ (b : StoredBasis) (sound : Sound b) (filled : WithinArrays b) (i j : �
     𝓟 = ring_of b sound h
 
     abbrev low : Low (Grevlex b.n) G
-    low = lines-low b sound h filled
+    low = lines-low b sound h
 
     -- At the least common multiple and above it.
     difference-top : coef R 𝓜 (pair_difference b i j h) m ≡ R.zero
     unfolding pair_difference
     difference-top = coef-append (residue-ring b.p h) 𝓜 _ _ _
-        ∙ ap₂ R.add (multiple-top b sound filled i li m (divides-left b i j) h 1 ∙ residue-one b.p h)
-        (multiple-top b sound filled j lj m (divides-right b i j) h (negation_mod b.p 1) ∙ residue-minus-one b.p h)
+        ∙ ap₂ R.add (multiple-top b sound i li m (divides-left b i j) h 1 ∙ residue-one b.p h)
+        (multiple-top b sound j lj m (divides-right b i j) h (negation_mod b.p 1) ∙ residue-minus-one b.p h)
         ∙ (residue-ring b.p h).add_neg _
 
     difference-above : (a : Row b.n) → Grevlex b.n m a → coef R 𝓜 (pair_difference b i j h) a ≡ R.zero
     unfolding pair_difference
     difference-above a l = coef-append (residue-ring b.p h) 𝓜 _ _ a
-        ∙ ap₂ R.add (multiple-above b sound filled i li m (divides-left b i j) h 1 a l)
-        (multiple-above b sound filled j lj m (divides-right b i j) h (negation_mod b.p 1) a l)
+        ∙ ap₂ R.add (multiple-above b sound i li m (divides-left b i j) h 1 a l)
+        (multiple-above b sound j lj m (divides-right b i j) h (negation_mod b.p 1) a l)
         ∙ (residue-ring b.p h).add_zero _
 
     -- The S-polynomial.
@@ -139,7 +139,7 @@ module _ (b : StoredBasis) (sound : Sound b) (filled : WithinArrays b) (i j : �
     s₀ = clean (residue-ring b.p h) 𝓜 𝓟.field.decide raw
 
     common : Lcm 𝓜 f.0 g.0 m
-    common = subst₂ (λ x y. Lcm 𝓜 x y m) (sym (line-lead-at b sound h i li)) (sym (line-lead-at b sound h j lj)) (lcm-least b.n (lead_at b i) (lead_at b j))
+    common = subst₂ (λ x y. Lcm 𝓜 x y m) (sym (line-lead-at b h i)) (sym (line-lead-at b h j)) (lcm-least b.n (lead_at b i) (lead_at b j))
 
     pair₀ : SPolynomial R 𝓜 f g s₀
     unfolding s₀ raw u v
@@ -147,9 +147,9 @@ module _ (b : StoredBasis) (sound : Sound b) (filled : WithinArrays b) (i j : �
       m = m;
       lcm = common;
       u = u;
-      left = raised b sound i li m (divides-left b i j) h;
+      left = raised b i m (divides-left b i j) h;
       v = v;
-      right = raised b sound j lj m (divides-right b i j) h;
+      right = raised b j m (divides-right b i j) h;
       proper = clean-proper (residue-ring b.p h) 𝓜 𝓟.field.decide raw;
       outcome = clean-same (residue-ring b.p h) 𝓜 𝓟.field.decide raw;
     }
@@ -161,17 +161,17 @@ module _ (b : StoredBasis) (sound : Sound b) (filled : WithinArrays b) (i j : �
 
       same-u : w.u ≡ u
       unfolding u
-      same-u = cancel_right 𝓟.monoid (grevlex-order b.n) w.u u f.0 (sym w.left ∙ same-lcm ∙ raised b sound i li m (divides-left b i j) h)
+      same-u = cancel_right 𝓟.monoid (grevlex-order b.n) w.u u f.0 (sym w.left ∙ same-lcm ∙ raised b i m (divides-left b i j) h)
 
       same-v : w.v ≡ v
       unfolding v
-      same-v = cancel_right 𝓟.monoid (grevlex-order b.n) w.v v g.0 (sym w.right ∙ same-lcm ∙ raised b sound j lj m (divides-right b i j) h)
+      same-v = cancel_right 𝓟.monoid (grevlex-order b.n) w.v v g.0 (sym w.right ∙ same-lcm ∙ raised b j m (divides-right b i j) h)
 
       -- If the remainder of the one above is zero, so is its own.
       zero_of : Remainder R 𝓜 (Grevlex b.n) G s₀ [] → Remainder R 𝓜 (Grevlex b.n) G s []
       unfolding pair₀
       zero_of t = (zero-iff-NF 𝓟 (grevlex-order b.n) G low f g s w).1
-          (subst₂ (λ x y. (k : Row b.n) → coef R 𝓜 (NF (system_of b sound h filled) (minus R (shift 𝓜 x (polynomial R f)) (shift 𝓜 y (polynomial R g)))) k ≡ R.zero)
+          (subst₂ (λ x y. (k : Row b.n) → coef R 𝓜 (NF (system_of b sound h) (minus R (shift 𝓜 x (polynomial R f)) (shift 𝓜 y (polynomial R g)))) k ≡ R.zero)
           (sym same-u) (sym same-v) ((zero-iff-NF 𝓟 (grevlex-order b.n) G low f g s₀ pair₀).0 t))
 
     fails_of : (zero : Bool) → (zero ≡ true) ↔ Remainder R 𝓜 (Grevlex b.n) G s₀ [] → (not zero ≡ true) ↔ PairFails b h i j
@@ -217,13 +217,13 @@ module _ (b : StoredBasis) (sound : Sound b) (filled : WithinArrays b) (i j : �
 
 -- The pair, as it is loaded and divided.
 module _ {b : StoredBasis} {w : List ℕ} {i j : ℕ} {m : Row b.n} where
-  pub pair_of : PairableOn b w → i < b.lines → j < b.lines → m ≡ leads_lcm b i j → PairOf b w i j m
+  pub pair_of : PairableOn b w → i < length b.lines.items → j < length b.lines.items → m ≡ leads_lcm b i j → PairOf b w i j m
   pair_of q li lj e = record { sound = q.pairs.sound; work = q.work; left = li; right = lj; common = e; low = rw e (q.pairs.low i j li lj) }
 
-  pub pair-dividend : {w' : List ℕ} → PairOf b w i j m → WithinArrays b → HoldsZero b.n w → AddsPolynomial b.p b.n w w' (pair_difference b i j) → Dividend b w' m
-  pair-dividend {w'} q f z a = record {
+  pub pair-dividend : {w' : List ℕ} → PairOf b w i j m → HoldsZero b.n w → AddsPolynomial b.p b.n w w' (pair_difference b i j) → Dividend b w' m
+  pair-dividend {w'} q z a = record {
     sound = q.sound;
     work = adds-work b.p b.n q.work a;
     low = q.low;
-    above = rw q.common (pair-zero-from b q.sound f i j q.left q.right w w' z a);
+    above = rw q.common (pair-zero-from b q.sound i j q.left q.right w w' z a);
   }

@@ -11,7 +11,7 @@ use native.Mathlib.Omega.{arith}
 use Rattle.std.specs.Prelude.{Some, None}
 use borrow.Author.Count.{below_more}
 use lib.ListN.{length, get_or}
-use Rattle.lines.specs.Bases.{StoredBasis}
+use Rattle.lines.specs.declared.StoredBasis.{StoredBasis}
 use Rattle.staircase.proofs.SmallestLine.{smallest-found, smallest-none}
 use Rattle.division.specs.GrevlexPlace.{place, space}
 use Rattle.division.specs.CoefficientArray.{Work}
@@ -48,17 +48,15 @@ module _ {b : StoredBasis} {j : ℕ} {w₀ w : List ℕ} {i : ℕ} (s : EarlierP
   }
 
 pub record LinesPassed (b : StoredBasis) (w₀ w : List ℕ) (j : ℕ) : Type 0 where
-  pub within : j ≤ b.lines
-  pub filled : b.lines ≤ length b.generators
+  pub within : j ≤ length b.lines.items
   pub size : length w ≡ length w₀
   pub ready : PairableOn b w
   pub passed : (k : ℕ) → k < j → (h : 1 < b.p) → ¬ ((i : ℕ) × (i < k) × PairFails b h i k)
 
-pub lines_start : {b : StoredBasis} (w : List ℕ) → Pairable b → b.lines ≤ length b.generators → space ≤ length w
+pub lines_start : {b : StoredBasis} (w : List ℕ) → Pairable b → space ≤ length w
     → ((k : ℕ) → get_or w k 0 ≡ 0) → LinesPassed b w w 0
-lines_start {b} w q l room z = record {
+lines_start {b} w q room z = record {
   within = omega arith;
-  filled = l;
   size = refl;
   ready = record { pairs = q; work = work; zero = λ a. z (place b.n a) };
   passed = λ k l. absurd (omega arith);
@@ -70,24 +68,22 @@ lines_start {b} w q l room z = record {
     work : Work b.p b.n w
     work = record {
       modulus = q.sound.modulus;
-      variables = q.sound.variables;
       room = room;
       residues = λ a. rw (z (place b.n a)) (omega (arith, h));
     }
 
 module _ {b : StoredBasis} {w₀ w : List ℕ} {j : ℕ} (s : LinesPassed b w₀ w j) where
-  module _ {w' : List ℕ} {r : Bool} (l : j < b.lines) (a : EarlierSays b j w' r) where
+  module _ {w' : List ℕ} {r : Bool} (l : j < length b.lines.items) (a : EarlierSays b j w' r) where
     pub lines-turn : length w' ≡ length w → r ≡ false → LinesPassed b w₀ w' (j + 1)
     lines-turn e q = record {
       within = omega arith;
-      filled = s.filled;
       size = e ∙ s.size;
       ready = record { pairs = s.ready.pairs; work = a.work; zero = a.zero q };
       passed = below_more _ _ s.passed (λ h f. false≢true (sym q ∙ (a.verdict h).1 f));
     }
 
     pub lines-found : r ≡ true → FirstFailing b (Some (j + 2))
-    lines-found q h = smallest-found (failing-places b h s.filled) j l ((a.verdict h).0 q) (λ k i. s.passed k i h)
+    lines-found q h = smallest-found (failing-places b h) j l ((a.verdict h).0 q) (λ k i. s.passed k i h)
 
-  pub lines-stop : b.lines ≤ j → FirstFailing b None
-  lines-stop l h = smallest-none (failing-places b h s.filled) (λ k i. s.passed k (omega arith) h)
+  pub lines-stop : length b.lines.items ≤ j → FirstFailing b None
+  lines-stop l h = smallest-none (failing-places b h) (λ k i. s.passed k (omega arith) h)

@@ -9,8 +9,9 @@
 use mathlib.Core.Path.{◌≡◌, refl, ◌∙◌, ap}
 use Prim.Native.Nat.{ℕ, suc, ◌+◌, ◌*◌, ◌≤◌, ◌<◌}
 use native.Mathlib.Omega.{arith}
-use Rattle.monomial.specs.Rows.{Row, exponent}
-use Rattle.division.specs.GrevlexPlace.{monomials_below, prefix_sum, place_of_first, place, most_degree, space, HasPlace}
+use Rattle.monomial.specs.Sizes.{most_variables}
+use Rattle.monomial.specs.Rows.{Row, exponent, degree}
+use Rattle.division.specs.GrevlexPlace.{monomials_below, prefix_sum, place_of_first, place, most_degree, space}
 use Rattle.division.proofs.Binomials.{below-space}
 use Rattle.division.proofs.GrevlexPlaces.{prefix-degree, prefix-more, place-more, first-bound, place-bound}
 
@@ -24,9 +25,9 @@ module _ (n : ℕ) (a : Row n) where
   unfolding place_of_first
   place-sum-start = record { within = omega arith; the_sum = refl; the_place = refl }
 
-  module _ (has : HasPlace n a) where
+  module _ (few : n ≤ most_variables) (low : degree n a ≤ most_degree) where
     pub place-fits : place n a < space
-    place-fits = omega (arith, place-bound n most_degree a has.low, below-space n (suc most_degree) has.variables (omega arith))
+    place-fits = omega (arith, place-bound n most_degree a low, below-space n (suc most_degree) few (omega arith))
 
     module _ (i sum at : ℕ) (s : PlaceSum n a i sum at) (h : i < n) where
       pub place-sum-small : sum + exponent n a i ≤ most_degree

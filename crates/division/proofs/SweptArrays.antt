@@ -1,6 +1,6 @@
 -- The division of what an array holds, one monomial a turn from the greatest down: the normal form is kept.
 --   clears-length                         a turn leaves the array's length the same
---   KeepsNormalForm b sound filled w w'   what w' holds has the normal form of what w holds
+--   KeepsNormalForm b sound w w'          what w' holds has the normal form of what w holds
 --   Swept b w₀ w m at                     down to m, which stands at the place `at`: at m and above it the array is zero, and the normal form is kept
 --   swept-start                           before the first turn
 --   swept-low, swept-place                the monomial of the next turn,
@@ -33,10 +33,9 @@ use Rattle.groebner.proofs.Ground.{PolynomialRing}
 use Rattle.groebner.proofs.Division.{remainder-NF}
 use Rattle.groebner.proofs.NormalForms.{NF}
 use Rattle.groebner.proofs.GroebnerBases.{zero-remainder}
-use Rattle.lines.specs.Bases.{StoredBasis}
+use Rattle.lines.specs.declared.StoredBasis.{StoredBasis}
 use Rattle.staircase.specs.StoredLines.{stored_lines}
 use Rattle.staircase.specs.Sound.{Sound}
-use Rattle.staircase.proofs.LineElements.{WithinArrays}
 use Rattle.division.specs.GrevlexPlace.{place, most_degree, space}
 use Rattle.division.specs.CoefficientArray.{HoldsPolynomial, HoldsZero, ZeroAbove, Work}
 use Rattle.division.specs.Clearing.{lead_at, line_at, multiple_of, line_multiple, Dividend, Sweeps}
@@ -58,10 +57,10 @@ coefficient-zero : (p : ℕ) (h : 1 < p) (n : ℕ) (w : List ℕ) (f : Poly (ZMo
 unfolding modulo
 coefficient-zero p h n w f a o e = residue-same (sym (o a) ∙ e)
 
-module _ (b : StoredBasis) (sound : Sound b) (filled : WithinArrays b) where
+module _ (b : StoredBasis) (sound : Sound b) where
   -- The normal form of what an array holds.
   abbrev normal : (h : 1 < b.p) → Poly (ZMod b.p) (Row b.n) → Poly (ZMod b.p) (Row b.n)
-  normal h = NF (system_of b sound h filled)
+  normal h = NF (system_of b sound h)
 
   -- What w' holds has the normal form of what w holds.
   abbrev pub KeepsNormalForm : List ℕ → List ℕ → Type 0
@@ -82,8 +81,8 @@ module _ (b : StoredBasis) (sound : Sound b) (filled : WithinArrays b) where
     clears-kept (subtracted j f a) h s o = (
       s ++ line_multiple b j _ m h,
       adds-holds b.p b.n a h s o,
-      NF-added (ring_of b sound h) (grevlex-order b.n) (stored_lines b h) (lines-low b sound h filled) s _ m (line_at b h j) (quotient b.n m (lead_at b j))
-          (earliest-line b sound h filled m j f) (raised b sound j f.within m f.here h),
+      NF-added (ring_of b sound h) (grevlex-order b.n) (stored_lines b h) (lines-low b sound h) s _ m (line_at b h j) (quotient b.n m (lead_at b j))
+          (earliest-line b h m j f) (raised b j m f.here h),
     )
 
     -- The coefficient of m itself.
@@ -91,7 +90,7 @@ module _ (b : StoredBasis) (sound : Sound b) (filled : WithinArrays b) where
     unfolding negation_mod
     at-m (idle e q) = rw q e
     at-m (subtracted j f s) = let h = k.modulus.prime.above_one in
-        s.sums h m ∙ ap (λ x. sum_mod b.p (get_or w (place b.n m) 0) x.0) (multiple-top b sound filled j f.within m f.here h _)
+        s.sums h m ∙ ap (λ x. sum_mod b.p (get_or w (place b.n m) 0) x.0) (multiple-top b sound j f.within m f.here h _)
         ∙ ap (sum_mod b.p (get_or w (place b.n m) 0)) (residue-below b.p h _ (mod-lt _ (omega arith))) ∙ negation-sum b.p _ (k.residues m)
 
     -- Those above it.
@@ -99,7 +98,7 @@ module _ (b : StoredBasis) (sound : Sound b) (filled : WithinArrays b) where
     unfolding modulo
     above-m (idle e q) a l = rw q (z a l)
     above-m (subtracted j f s) a l = let h = k.modulus.prime.above_one in
-        s.sums h a ∙ ap₂ (λ x y. sum_mod b.p x y.0) (z a l) (multiple-above b sound filled j f.within m f.here h _ a (place-grevlex b.n m a l))
+        s.sums h a ∙ ap₂ (λ x y. sum_mod b.p x y.0) (z a l) (multiple-above b sound j f.within m f.here h _ a (place-grevlex b.n m a l))
         ∙ sum-zero b.p 0 (omega arith)
 
     clears-zero : Clears b m w w' true → ZeroAbove b.n (place b.n m) w'
@@ -117,18 +116,16 @@ module _ (b : StoredBasis) (sound : Sound b) (filled : WithinArrays b) where
 
 pub record Swept (b : StoredBasis) (w₀ w : List ℕ) (m : Row b.n) (at : ℕ) : Type 0 where
   pub sound : Sound b
-  pub filled : WithinArrays b
   pub size : length w ≡ length w₀
   pub work : Work b.p b.n w
   pub the_place : at ≡ place b.n m
   pub low : degree b.n m ≤ most_degree
   pub above : ZeroAbove b.n at w
-  pub kept : KeepsNormalForm b sound filled w₀ w
+  pub kept : KeepsNormalForm b sound w₀ w
 
-pub swept-start : {b : StoredBasis} {w : List ℕ} {m : Row b.n} {at : ℕ} → Dividend b w m → WithinArrays b → at ≡ place b.n m → Swept b w w m at
-swept-start d f e = record {
+pub swept-start : {b : StoredBasis} {w : List ℕ} {m : Row b.n} {at : ℕ} → Dividend b w m → at ≡ place b.n m → Swept b w w m at
+swept-start d e = record {
   sound = d.sound;
-  filled = f;
   size = refl;
   work = d.work;
   the_place = e;
@@ -143,7 +140,7 @@ module _ {b : StoredBasis} {w₀ w : List ℕ} {m : Row b.n} {at : ℕ} (s : Swe
   𝓟 = ring_of b s.sound
 
   abbrev lower : (h : 1 < b.p) → Low (Grevlex b.n) (stored_lines b h)
-  lower h = lines-low b s.sound h s.filled
+  lower h = lines-low b s.sound h
 
   -- The monomial of the next turn.
   module _ (m' : Row b.n) (e : suc (place b.n m') ≡ place b.n m) where
@@ -154,7 +151,7 @@ module _ {b : StoredBasis} {w₀ w : List ℕ} {m : Row b.n} {at : ℕ} (s : Swe
     swept-place = omega (arith, s.the_place)
 
     pub swept-inside : (at - 1 < space) × (at - 1 < length w)
-    swept-inside = let (k, l) = work-place b.p b.n m' s.work swept-low in (omega (arith, swept-place), omega (arith, swept-place))
+    swept-inside = let (k, l) = work-place b.p b.n m' s.work s.sound.variables.most swept-low in (omega (arith, swept-place), omega (arith, swept-place))
 
     rest : ZeroAbove b.n (suc (place b.n m')) w
     rest a l = s.above a (omega (arith, s.the_place))
@@ -162,13 +159,12 @@ module _ {b : StoredBasis} {w₀ w : List ℕ} {m : Row b.n} {at : ℕ} (s : Swe
     pub swept-turn : {w' : List ℕ} → Clears b m' w w' true → Swept b w₀ w' m' (at - 1)
     swept-turn {w'} c = record {
       sound = s.sound;
-      filled = s.filled;
       size = clears-length c ∙ s.size;
-      work = clears-work b s.sound s.filled w w' m' s.work rest c;
+      work = clears-work b s.sound w w' m' s.work rest c;
       the_place = swept-place;
       low = swept-low;
-      above = λ a l. clears-zero b s.sound s.filled w w' m' s.work rest c a (omega (arith, swept-place));
-      kept = keeps-trans b s.sound s.filled w₀ w w' s.kept (clears-kept b s.sound s.filled w w' m' s.work rest c);
+      above = λ a l. clears-zero b s.sound w w' m' s.work rest c a (omega (arith, swept-place));
+      kept = keeps-trans b s.sound w₀ w w' s.kept (clears-kept b s.sound w w' m' s.work rest c);
     }
 
     -- No line divides m', and its coefficient is not zero: nor is that of the normal form.
@@ -177,14 +173,14 @@ module _ {b : StoredBasis} {w₀ w : List ℕ} {m : Row b.n} {at : ℕ} (s : Swe
     unfolding modulo
     not-zero (stuck n f q) h r o t =
         let (g, i, same) = s.kept h r o in
-        let top = NF-top (𝓟 h) (grevlex-order b.n) (stored_lines b h) (lower h) g m' (irreducible-at b s.sound h s.filled m' f)
+        let top = NF-top (𝓟 h) (grevlex-order b.n) (stored_lines b h) (lower h) g m' (irreducible-at b h m' f)
         (λ k l. coefficient-zero b.p h b.n w g k i (rest k (place-monotone b.n m' k l))) in
         n (i m' ∙ ap (λ x. x.0) (sym top ∙ same m' ∙ sym (remainder-NF (𝓟 h) (grevlex-order b.n) (stored_lines b h) (lower h) t m')
         ∙ coef-nil (residue-ring b.p h) (monomials b.n) m'))
 
     pub swept-false : {w' : List ℕ} → Clears b m' w w' false → Sweeps b w₀ w' false
     swept-false {w'} c = record {
-      work = clears-work b s.sound s.filled w w' m' s.work rest c;
+      work = clears-work b s.sound w w' m' s.work rest c;
       cleared = λ q. absurd (false≢true q);
       verdict = λ h r proper o. (λ q. absurd (false≢true q), λ t. absurd (not-zero c h r o t));
     }

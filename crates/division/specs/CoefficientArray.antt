@@ -10,7 +10,6 @@ use Rattle.std.specs.Prelude.{ℕ, ◌≤◌, ◌<◌, ◌≡◌, List, length, 
 use Rattle.residue.specs.Prime.{Modulus}
 use Rattle.residue.specs.Modular.{sum_mod}
 use Rattle.residue.specs.Field.{ZMod, modulo}
-use Rattle.monomial.specs.Sizes.{VariableCount}
 use Rattle.monomial.specs.Rows.{Row, degree}
 use Rattle.monomial.specs.Ordering.{monomials}
 use Rattle.groebner.specs.Polynomials.{Poly, coef}
@@ -35,7 +34,6 @@ Residues p n w = (a : Row n) → get_or w (place n a) 0 < p
 -- And there is room for each monomial of at most the largest degree.
 pub record Work (p n : ℕ) (w : List ℕ) : Type 0 where
   pub modulus : Modulus p
-  pub variables : VariableCount n
   pub room : space ≤ length w
   pub residues : Residues p n w
 

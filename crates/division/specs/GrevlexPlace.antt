@@ -5,11 +5,10 @@
 --   place n a              the place of a, from 0: as many monomials are smaller
 --   most_degree            35, the largest degree of a least common multiple of two leading monomials after checks 12 to 14
 --   space                  C(39, 4) = 82,251, the number of places up to that degree
---   HasPlace n a           a has at most four variables, and at most that degree
---   PlaceIs n a r          r is its place, one of these
-use Rattle.std.specs.Prelude.{ℕ, zero, suc, ◌+◌, ◌-◌, ◌≤◌, ◌<◌, ◌≡◌}
+--   PlaceIs n a r          r is the place of a, one of these
+use Rattle.std.specs.Prelude.{ℕ, zero, suc, ◌+◌, ◌-◌, ◌<◌, ◌≡◌}
 use Rattle.monomial.specs.Sizes.{most_variables}
-use Rattle.monomial.specs.Rows.{Row, exponent, degree}
+use Rattle.monomial.specs.Rows.{Row, exponent}
 use Rattle.lines.specs.Sizes.{most_standard}
 
 -- C(d + k - 1, k): in k + 1 variables, those of degree below d, and those of degree d.
@@ -43,12 +42,7 @@ unfoldable pub space : ℕ
 unfolding monomials_below
 space = monomials_below most_variables (suc most_degree)
 
--- There is a place for a.
-pub record HasPlace (n : ℕ) (a : Row n) : Type 0 where
-  pub variables : n ≤ most_variables
-  pub low : degree n a ≤ most_degree
-
--- It is r.
+-- The place of a is r.
 pub record PlaceIs (n : ℕ) (a : Row n) (r : ℕ) : Type 0 where
   pub value : r ≡ place n a
   pub inside : r < space

@@ -1,8 +1,9 @@
 // The place of a monomial in grevlex order, from 0, and the monomial at the place before.
 ghost use Rattle.std.specs.Prelude.{◌≡◌, suc, ◌≤◌, ◌<◌};
 ghost use Rattle.monomial.specs.Sizes.{most_variables};
+ghost use Rattle.monomial.specs.Rows.{degree};
 ghost use Rattle.monomial.specs.Represented.{row};
-ghost use Rattle.division.specs.GrevlexPlace.{monomials_below, place, most_degree, space, HasPlace, PlaceIs};
+ghost use Rattle.division.specs.GrevlexPlace.{monomials_below, place, most_degree, space, PlaceIs};
 
 use lines::sizes::MAX_STANDARD;
 use monomial::count::Variables;
@@ -36,7 +37,7 @@ fn monomials_below(k: usize, d: usize) -> usize
 
 // The sum over the first i variables, for each i from 1 to n, of C(s + i - 1, i) for the sum s of their exponents.
 pub fn place(m: Monomial, n: Variables) -> usize
-    requires { HasPlace n (row n m) }
+    requires { degree n (row n m) ≤ most_degree }
     ensures { PlaceIs n (row n m) result }
 {
     let mut at = 0;
@@ -50,13 +51,14 @@ pub fn place(m: Monomial, n: Variables) -> usize
 
 // The lowest sum of first exponents that is not 0 falls by 1, and all below it take its new value.
 pub fn before(mut m: Monomial, n: Variables) -> Monomial
-    requires { HasPlace n (row n m) × (0 < place n (row n m)) }
+    requires { (degree n (row n m) ≤ most_degree) × (0 < place n (row n m)) }
     ensures { suc (place n (row n result)) ≡ place n (row n m) }
 {
+    let count = n.count();
     let i = first_variable(m, n).unwrap();
     let x = m.e[i].0 - 1;
     m.e[i] = Exponent(0);
-    if i + 1 < n.count() {
+    if i + 1 < count {
         m.e[i + 1].0 += 1;
     }
     m.e[0] = Exponent(x);

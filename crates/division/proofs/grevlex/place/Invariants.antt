@@ -4,4 +4,4 @@ use Rattle.division.proofs.PlaceSums.{PlaceSum}
 use Rattle.division.proofs.grevlex.place.Given as goal
 
 abbrev pub invariant-loop-i : goal.invariant-loop-i
-invariant-loop-i l = PlaceSum l.n (row l.n l.fn.m) l.i l.sum l.at
+invariant-loop-i l = PlaceSum l.fn.n (row l.fn.n l.fn.m) l.i l.sum l.at
