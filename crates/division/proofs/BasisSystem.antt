@@ -45,7 +45,7 @@ use Rattle.staircase.specs.StoredLines.{stored_lines}
 use Rattle.staircase.specs.Leads.{leads_in}
 use Rattle.staircase.specs.Sound.{generator_at, Sound}
 use Rattle.staircase.proofs.LineElements.{stored-lines-length, line-at}
-use Rattle.staircase.proofs.LineLeads.{line-lead, leads-held}
+use Rattle.staircase.proofs.LineLeads.{line-lead, leads-length}
 use Rattle.staircase.proofs.SoundLines.{sound-lines}
 use Rattle.division.specs.Clearing.{lead_at, line_at}
 
@@ -78,9 +78,6 @@ module _ (b : StoredBasis) (m : Row b.n) where
   abbrev test : Monomial → Bool
   test d = divides b.n (row b.n d) m
 
-  leads-many : length (leads_in b) ≡ length b.lines.items
-  leads-many = (leads-held b).0
-
   tested : (j : ℕ) → test (get_or (leads_in b) j (monomial_at [] 0)) ≡ divides b.n (lead_at b j) m
   unfolding leads_in generator_at
   tested j = ap test (get_or-map (λ (g : ArrayVec LineTerm). monomial_at g.items 0) b.lines.items j (record { items = [] }))
@@ -88,10 +85,10 @@ module _ (b : StoredBasis) (m : Row b.n) where
   pub first-line : (k : ℕ) → position test (leads_in b) ≡ Some k → FirstDivisor b m k
   first-line k e =
       let (within, here, before) = position-Some test (leads_in b) k (monomial_at [] 0) e in
-      record { within = omega (arith, leads-many); before = λ j i. sym (tested j) ∙ before j i; here = sym (tested k) ∙ here }
+      record { within = omega (arith, leads-length b); before = λ j i. sym (tested j) ∙ before j i; here = sym (tested k) ∙ here }
 
   pub no-line : position test (leads_in b) ≡ None → NoDivisor b m
-  no-line e j l = sym (tested j) ∙ position-none test (leads_in b) (monomial_at [] 0) e j (omega (arith, leads-many))
+  no-line e j l = sym (tested j) ∙ position-none test (leads_in b) (monomial_at [] 0) e j (omega (arith, leads-length b))
 
 module _ (b : StoredBasis) (sound : Sound b) (h : 1 < b.p) where
   -- The modulus is a prime, and h says so of it as well.

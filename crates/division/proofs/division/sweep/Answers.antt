@@ -1,62 +1,57 @@
 -- `sweep` meets its contract. The loop's invariant: the array is divided down to m.
-use mathlib.Core.Path.{sym, ◌∙◌}
+use mathlib.Core.Path.{◌≡◌, sym, ◌∙◌, ap}
 use native.Mathlib.Omega.{arith}
 use borrow.Author.Tests.{eqb-true, eqb-false}
+use lib.ListN.{length}
 use Rattle.monomial.specs.Represented.{row}
-use Rattle.lines.specs.Bases.{StoredBasis, basis_in}
-use Rattle.staircase.specs.Leads.{LeadsOf}
-use Rattle.staircase.proofs.StoredBasis.{held-filled, held-leads}
-use Rattle.division.proofs.StoredLines.{sound-read, divides-read, adds-read}
+use Rattle.staircase.specs.Sound.{generator_at}
+use Rattle.staircase.proofs.LineElements.{generator-read}
 use Rattle.division.proofs.BasisSystem.{FirstDivisor, first-line, no-line}
 use Rattle.division.proofs.ClearedMonomials.{clears-idle, clears-subtracted, clears-stuck}
 use Rattle.division.proofs.SweptArrays.{swept-start, swept-low, swept-place, swept-turn, swept-true, swept-false}
-use Rattle.division.proofs.division.sweep.Goals.{After-leads_of-leads, In-Some, Start}
+use Rattle.division.proofs.division.sweep.Goals.{In-Some, After-deref-then-not-is_zero-2}
 use Rattle.division.proofs.division.sweep.Goals as goal
 
--- The basis that is lent.
-abbrev lent : Start → StoredBasis
-lent c = basis_in c.args.shape c.args.counts.now c.args.coefficients.now c.args.exponents.now
-
--- The leading monomials are those of the basis.
-stored : (c : After-leads_of-leads) → LeadsOf (lent (goal.at.After-leads_of-leads c).Start) c.leads_of-leads.result.items
-stored c = held-leads c.args.shape _ _ _ c.requires.basis.sound _ c.leads_of-leads.ensures
-
 -- The earliest line that divides the monomial of this turn.
-first : (c : In-Some) → FirstDivisor (lent (goal.at.In-Some c).Start) (row c.args.shape.n c.before-m.result) c.in-Some.k
-first c =
-    let s = c.loop-at.invariant in
-    first-line _ s.sound s.work.modulus.prime.above_one _ (stored (goal.at.In-Some c).After-leads_of-leads) _ _ (rw c.deref.ensures.0 at (sym c.earliest.ensures ∙ c.in-Some.is))
+first : (c : In-Some) → FirstDivisor c.args.basis.now (row c.args.basis.now.n c.before-m.result) c.in-Some.k
+first c = first-line _ _ _ (rw (c.deref.ensures.0, c.leads_of-leads.ensures) at (sym c.earliest.ensures ∙ c.in-Some.is))
+
+-- The line that is read.
+read : (c : After-deref-then-not-is_zero-2) → c.deref-then-not-is_zero-2.result.now ≡ generator_at c.args.basis.now c.in-Some.k
+read c =
+    let f = first (goal.at.After-deref-then-not-is_zero-2 c).In-Some in
+    generator-read c.args.basis.now c.in-Some.k c.deref-then-not-is_zero.ensures.0 (omega (arith, f.within, ap length c.deref-then-not-is_zero.ensures.0)) c.index-deref-k.is c.deref-then-not-is_zero-2.ensures.0
 
 pub loop-at-init : goal.loop-at-init
-loop-at-init c =
-    let dividend = c.requires.basis in
-    swept-start dividend (held-filled _ _ _ _ dividend.sound) c.place-at.ensures.value
+loop-at-init c = swept-start c.requires c.place-at.ensures.value
 
 pub returns-in_default : goal.returns-in_default
 returns-in_default c =
     let s = c.loop-at.invariant in
     let e = c.before-m.ensures in
-    let l = stored (goal.at.returns-in_default c).After-leads_of-leads in
-    let none = no-line _ s.sound s.work.modulus.prime.above_one _ l _ (rw c.deref.ensures.0 at (sym c.earliest.ensures ∙ c.in_default.is)) in
+    let none = no-line c.args.basis.now _ (rw (c.deref.ensures.0, c.leads_of-leads.ensures) at (sym c.earliest.ensures ∙ c.in_default.is)) in
     swept-false s _ e (clears-stuck _ _ (swept-place s _ e) (eqb-false _ _ (sym c.is_zero.ensures ∙ c.if-not-is_zero.true)) none)
+
+pub bounds-deref-k : goal.bounds-deref-k
+bounds-deref-k c = omega (arith, (first (goal.at.bounds-deref-k c).In-Some).within, ap length c.deref-then-not-is_zero.ensures.0)
 
 pub add_line-requires : goal.add_line-requires
 add_line-requires c =
     let s = c.loop-at.invariant in
-    let q = c.line_at-g.ensures in
-    let f = first (goal.at.add_line-requires c).In-Some in (
-      sound-read _ _ _ _ s.sound _ f.within q,
+    let f = first (goal.at.add_line-requires c).In-Some in
+    rw (read (goal.at.add_line-requires c).After-deref-then-not-is_zero-2) (
+      s.sound.lines _ f.within,
       record { work = s.work; residue = c.neg.ensures.1; low = swept-low s _ c.before-m.ensures },
-      divides-read _ _ _ _ s.sound _ f.within q _ f.here,
+      f.here,
     )
 
 pub loop-at-preserved-then-not-is_zero : goal.loop-at-preserved-then-not-is_zero
 loop-at-preserved-then-not-is_zero c =
     let s = c.loop-at.invariant in
     let e = c.before-m.ensures in
-    let f = first (goal.at.loop-at-preserved-then-not-is_zero c).In-Some in
-    let added = adds-read _ _ _ _ s.sound _ f.within c.line_at-g.ensures _ _ c.add_line.ensures in
-    swept-turn s _ e (clears-subtracted _ _ (swept-place s _ e) _ c.neg.ensures.0 f added)
+    let turn = goal.at.loop-at-preserved-then-not-is_zero c in
+    let added = rw (read turn.After-deref-then-not-is_zero-2) at c.add_line.ensures in
+    swept-turn s _ e (clears-subtracted _ _ (swept-place s _ e) _ c.neg.ensures.0 (first turn.In-Some) added)
 
 pub loop-at-preserved : goal.loop-at-preserved
 loop-at-preserved c =

@@ -1,8 +1,17 @@
 -- `lead_lcm` meets its contract.
-use Rattle.division.proofs.StoredLines.{lcm-read}
+use mathlib.Core.Path.{◌∙◌, ap, ap₂}
+use native.Mathlib.Omega.{arith}
+use lib.ListN.{length}
+use Rattle.lines.specs.LineTerms.{monomial_at}
+use Rattle.monomial.specs.Quotients.{lcm}
+use Rattle.monomial.specs.Represented.{row}
+use Rattle.monomial.proofs.Places.{row-monomial}
+use Rattle.staircase.proofs.LineElements.{generator-read}
 use Rattle.division.proofs.pairs.lead_lcm.Goals as goal
 
 pub returns : goal.returns
-returns c ts cs =
-    let (size, variables, left, right) = c.requires in
-    lcm-read c.args.shape ts cs _ c.args.i c.args.j left right c.lead_at-f.ensures c.lead_at-g.ensures c.lcm.ensures
+returns c =
+    let b = c.args.basis.now in
+    let f = generator-read b c.args.i c.deref.ensures.0 (omega (arith, ap length c.deref.ensures.0)) c.index-deref-i.is c.deref-2.ensures.0 in
+    let g = generator-read b c.args.j c.deref-3.ensures.0 (omega (arith, ap length c.deref-3.ensures.0)) c.index-deref-j.is c.deref-4.ensures.0 in
+    rw (c.lcm.ensures, row-monomial, c.lead-f.ensures, c.lead-g.ensures, f, g)

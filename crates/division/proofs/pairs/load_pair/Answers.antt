@@ -1,34 +1,41 @@
 -- `load_pair` meets its contract.
-use Rattle.lines.specs.Bases.{StoredBasis, basis_in}
+use mathlib.Core.Path.{◌≡◌, ap}
+use native.Mathlib.Omega.{arith}
+use lib.ListN.{length}
+use Rattle.staircase.specs.Sound.{generator_at}
+use Rattle.staircase.proofs.LineElements.{generator-read}
 use Rattle.division.proofs.AddedTerms.{adds-work}
-use Rattle.division.proofs.StoredLines.{sound-read, divides-read, adds-read}
 use Rattle.division.proofs.PairDivision.{divides-left, divides-right, pair-loaded}
-use Rattle.division.proofs.pairs.load_pair.Goals.{Start}
+use Rattle.division.proofs.pairs.load_pair.Goals.{After-deref-2, After-deref-4}
 use Rattle.division.proofs.pairs.load_pair.Goals as goal
 
--- The basis that is lent.
-abbrev lent : Start → StoredBasis
-lent c = basis_in c.args.shape c.args.counts.now c.args.coefficients.now c.args.exponents.now
+-- The lines that are read.
+left : (c : After-deref-2) → c.deref-2.result.now ≡ generator_at c.args.basis.now c.args.i
+left c = generator-read c.args.basis.now c.args.i c.deref.ensures.0 (omega (arith, ap length c.deref.ensures.0)) c.index-deref-i.is c.deref-2.ensures.0
+
+right : (c : After-deref-4) → c.deref-4.result.now ≡ generator_at c.args.basis.now c.args.j
+right c = generator-read c.args.basis.now c.args.j c.deref-3.ensures.0 (omega (arith, ap length c.deref-3.ensures.0)) c.index-deref-j.is c.deref-4.ensures.0
 
 pub add_line-requires : goal.add_line-requires
 add_line-requires c =
-    let pair = c.requires.basis in (
-      sound-read _ _ _ _ pair.sound _ pair.left c.line_at-f.ensures,
-      record { work = pair.work; residue = pair.work.modulus.prime.above_one; low = pair.low },
-      rw pair.common (divides-read _ _ _ _ pair.sound _ pair.left c.line_at-f.ensures _ (divides-left (lent (goal.at.add_line-requires c).Start) c.args.i c.args.j)),
+    let pair = c.requires in
+    rw (left (goal.at.add_line-requires c).After-deref-2, pair.common) (
+      pair.sound.lines _ pair.left,
+      record { work = pair.work; residue = pair.work.modulus.prime.above_one; low = rw pair.common at pair.low },
+      divides-left c.args.basis.now c.args.i c.args.j,
     )
 
 pub add_line-requires-2 : goal.add_line-requires-2
 add_line-requires-2 c =
-    let pair = c.requires.basis in (
-      sound-read _ _ _ _ pair.sound _ pair.right c.line_at-g.ensures,
-      record { work = adds-work _ _ pair.work c.add_line.ensures; residue = c.neg.ensures.1; low = pair.low },
-      rw pair.common (divides-read _ _ _ _ pair.sound _ pair.right c.line_at-g.ensures _ (divides-right (lent (goal.at.add_line-requires-2 c).Start) c.args.i c.args.j)),
+    let pair = c.requires in
+    rw (right (goal.at.add_line-requires-2 c).After-deref-4, pair.common) (
+      pair.sound.lines _ pair.right,
+      record { work = adds-work _ _ pair.work c.add_line.ensures; residue = c.neg.ensures.1; low = rw pair.common at pair.low },
+      divides-right c.args.basis.now c.args.i c.args.j,
     )
 
 pub returns : goal.returns
 returns c =
-    let pair = c.requires.basis in
-    pair-loaded (lent (goal.at.returns c).Start) c.args.i c.args.j _ _ pair.common c.neg.ensures.0
-    (adds-read _ _ _ _ pair.sound _ pair.left c.line_at-f.ensures _ _ c.add_line.ensures)
-    (adds-read _ _ _ _ pair.sound _ pair.right c.line_at-g.ensures _ _ c.add_line-2.ensures)
+    let s = goal.at.returns c in
+    pair-loaded c.args.basis.now c.args.i c.args.j _ _ c.requires.common c.neg.ensures.0
+    (rw (left s.After-deref-2) at c.add_line.ensures) (rw (right s.After-deref-4) at c.add_line-2.ensures)
