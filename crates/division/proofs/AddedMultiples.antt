@@ -20,7 +20,7 @@ use Rattle.monomial.specs.Rows.{Row, exponent, product, degree}
 use Rattle.monomial.specs.Ordering.{monomials}
 use Rattle.monomial.specs.Represented.{row, most_entry}
 use Rattle.monomial.proofs.Products.{exponent-product, degree-product}
-use Rattle.groebner.specs.Polynomials.{Poly, scale, relabel, coef}
+use Rattle.groebner.specs.Polynomials.{scale, relabel, coef}
 use Rattle.groebner.specs.Lines.{polynomial}
 use Rattle.lines.specs.Terms.{Term, as_row}
 use Rattle.lines.specs.LineTerms.{term_of, terms_in, no_term, coefficient_at, monomial_at}

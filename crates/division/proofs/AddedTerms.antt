@@ -1,5 +1,4 @@
 -- Polynomials that are added to an array of coefficients.
---   work-place      there is room for each monomial of at most the largest degree in at most four variables
 --   adds_none       nothing is added
 --   adds-append     one polynomial after another
 --   adds_same       what is added is known by its coefficients
@@ -8,7 +7,7 @@
 --   adds-store      a term is added by one store
 use mathlib.Core.Path.{◌≡◌, refl, sym, ◌∙◌, ap, ap₂}
 use mathlib.Core.List.{List, [], ◌∷◌, ◌++◌}
-use Prim.Native.Nat.{ℕ, ◌≤◌, ◌<◌}
+use Prim.Native.Nat.{ℕ, ◌<◌}
 use native.Mathlib.Nat.{mod-lt}
 use native.Mathlib.Omega.{arith}
 use lib.ListN.{length, get_or, set, length-set}
@@ -18,18 +17,13 @@ use Rattle.residue.specs.Field.{ZMod, modulo, residue}
 use Rattle.residue.proofs.ResidueField.{residue-ring}
 use Rattle.residue.proofs.Residues.{residue-below}
 use Rattle.residue.proofs.ModularLaws.{sum-zero, sum-assoc}
-use Rattle.monomial.specs.Sizes.{most_variables}
-use Rattle.monomial.specs.Rows.{Row, degree}
+use Rattle.monomial.specs.Rows.{Row}
 use Rattle.monomial.specs.Ordering.{monomials, row?}
 use Rattle.groebner.specs.Polynomials.{Poly, coef, Same}
 use Rattle.groebner.proofs.Terms.{coef-nil, coef-here, coef-there, coef-append}
-use Rattle.division.specs.GrevlexPlace.{place, most_degree, space}
+use Rattle.division.specs.GrevlexPlace.{place}
 use Rattle.division.specs.CoefficientArray.{HoldsPolynomial, Residues, Work, AddsPolynomial}
-use Rattle.division.proofs.PlaceSums.{place-fits}
 use Rattle.division.proofs.GrevlexPlaces.{place-injective}
-
-pub work-place : (p n : ℕ) {w : List ℕ} (m : Row n) → Work p n w → n ≤ most_variables → degree n m ≤ most_degree → (place n m < space) × (place n m < length w)
-work-place p n m k v l = let h = place-fits n m v l in (h, omega (arith, h, k.room))
 
 module _ (p n : ℕ) where
   pub adds_none : (w : List ℕ) → Residues p n w → AddsPolynomial p n w w (λ h. [])

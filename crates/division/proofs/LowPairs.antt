@@ -1,8 +1,7 @@
 -- After checks 12 to 14 the least common multiple of two leading monomials has degree at most n + 31.
 --   low-pairs    none has more than the largest degree
-use Prim.Native.Nat.{ℕ, ◌≤◌, ◌<◌}
+use Prim.Native.Nat.{ℕ, ◌<◌}
 use native.Mathlib.Omega.{arith}
-use lib.ListN.{length}
 use Rattle.residue.specs.Field.{modulo}
 use Rattle.monomial.specs.Ordering.{monomials}
 use Rattle.groebner.specs.Standard.{ZeroDimensional}

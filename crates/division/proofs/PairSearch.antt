@@ -1,21 +1,19 @@
 -- The pairs of lines in turn, by later line and then by earlier line, until one fails.
 --   EarlierPassed b j w₀ w i   the pairs of line j with the first i lines passed, and the array holds zero
---   earlier-start, earlier-turn, earlier-found, earlier-stop
+--   earlier-turn, earlier-stop    a pair that passes, and the end
 --   LinesPassed b w₀ w j       so do the pairs of the first j lines with earlier lines
---   lines_start, lines-turn, lines-found, lines-stop
-use mathlib.Core.Path.{◌≡◌, refl, sym, ◌∙◌}
+--   lines-turn, lines-found, lines-stop   a line that passes, one that fails, and the end
+use mathlib.Core.Path.{◌≡◌, sym, ◌∙◌}
 use mathlib.Core.Bool.{Bool, true, false, false≢true}
 use mathlib.Core.List.{List}
 use Prim.Native.Nat.{ℕ, ◌+◌, ◌≤◌, ◌<◌}
 use native.Mathlib.Omega.{arith}
 use Rattle.std.specs.Prelude.{Some, None}
 use borrow.Author.Count.{below_more}
-use lib.ListN.{length, get_or}
+use lib.ListN.{length}
 use Rattle.lines.specs.declared.StoredBasis.{StoredBasis}
 use Rattle.staircase.proofs.SmallestLine.{smallest-found, smallest-none}
-use Rattle.division.specs.GrevlexPlace.{place, space}
-use Rattle.division.specs.CoefficientArray.{Work}
-use Rattle.division.specs.PairRemainders.{Pairable, PairableOn, PairFails, PairSays, EarlierSays, FirstFailing}
+use Rattle.division.specs.PairRemainders.{PairableOn, PairFails, PairSays, EarlierSays, FirstFailing}
 use Rattle.division.proofs.FailingPlaces.{failing-places}
 
 pub record EarlierPassed (b : StoredBasis) (j : ℕ) (w₀ w : List ℕ) (i : ℕ) : Type 0 where
@@ -23,9 +21,6 @@ pub record EarlierPassed (b : StoredBasis) (j : ℕ) (w₀ w : List ℕ) (i : �
   pub size : length w ≡ length w₀
   pub ready : PairableOn b w
   pub passed : (k : ℕ) → k < i → (h : 1 < b.p) → ¬ PairFails b h k j
-
-pub earlier-start : {b : StoredBasis} {j : ℕ} {w : List ℕ} → PairableOn b w → EarlierPassed b j w w 0
-earlier-start q = record { within = omega arith; size = refl; ready = q; passed = λ k l. absurd (omega arith) }
 
 module _ {b : StoredBasis} {j : ℕ} {w₀ w : List ℕ} {i : ℕ} (s : EarlierPassed b j w₀ w i) where
   module _ {w' : List ℕ} {r : Bool} (l : i < j) (a : PairSays b i j w' r) where
@@ -36,9 +31,6 @@ module _ {b : StoredBasis} {j : ℕ} {w₀ w : List ℕ} {i : ℕ} (s : EarlierP
       ready = record { pairs = s.ready.pairs; work = a.work; zero = a.zero q };
       passed = below_more _ _ s.passed (λ h f. false≢true (sym q ∙ (a.verdict h).1 f));
     }
-
-    pub earlier-found : r ≡ true → EarlierSays b j w' true
-    earlier-found q = record { verdict = λ h. (λ _. (i, l, (a.verdict h).0 q), λ _. refl); work = a.work; zero = λ e. absurd (false≢true (sym e)) }
 
   pub earlier-stop : j ≤ i → EarlierSays b j w false
   earlier-stop l = record {
@@ -52,25 +44,6 @@ pub record LinesPassed (b : StoredBasis) (w₀ w : List ℕ) (j : ℕ) : Type 0 
   pub size : length w ≡ length w₀
   pub ready : PairableOn b w
   pub passed : (k : ℕ) → k < j → (h : 1 < b.p) → ¬ ((i : ℕ) × (i < k) × PairFails b h i k)
-
-pub lines_start : {b : StoredBasis} (w : List ℕ) → Pairable b → space ≤ length w
-    → ((k : ℕ) → get_or w k 0 ≡ 0) → LinesPassed b w w 0
-lines_start {b} w q room z = record {
-  within = omega arith;
-  size = refl;
-  ready = record { pairs = q; work = work; zero = λ a. z (place b.n a) };
-  passed = λ k l. absurd (omega arith);
-}
-  where
-    h : 1 < b.p
-    h = q.sound.modulus.prime.above_one
-
-    work : Work b.p b.n w
-    work = record {
-      modulus = q.sound.modulus;
-      room = room;
-      residues = λ a. rw (z (place b.n a)) (omega (arith, h));
-    }
 
 module _ {b : StoredBasis} {w₀ w : List ℕ} {j : ℕ} (s : LinesPassed b w₀ w j) where
   module _ {w' : List ℕ} {r : Bool} (l : j < length b.lines.items) (a : EarlierSays b j w' r) where

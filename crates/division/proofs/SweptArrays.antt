@@ -3,8 +3,7 @@
 --   KeepsNormalForm b sound w w'          what w' holds has the normal form of what w holds
 --   Swept b w₀ w m at                     down to m, which stands at the place `at`: at m and above it the array is zero, and the normal form is kept
 --   swept-start                           before the first turn
---   swept-low, swept-place                the monomial of the next turn,
---   swept-inside                          whose place is inside the array
+--   swept-low, swept-place                the monomial of the next turn
 --   swept-turn                            a turn that clears it
 --   swept-true                            after the last turn
 --   swept-false                           a turn that does not clear it
@@ -36,11 +35,11 @@ use Rattle.groebner.proofs.GroebnerBases.{zero-remainder}
 use Rattle.lines.specs.declared.StoredBasis.{StoredBasis}
 use Rattle.staircase.specs.StoredLines.{stored_lines}
 use Rattle.staircase.specs.Sound.{Sound}
-use Rattle.division.specs.GrevlexPlace.{place, most_degree, space}
+use Rattle.division.specs.GrevlexPlace.{place, most_degree}
 use Rattle.division.specs.CoefficientArray.{HoldsPolynomial, HoldsZero, ZeroAbove, Work}
 use Rattle.division.specs.Clearing.{lead_at, line_at, multiple_of, line_multiple, Dividend, Sweeps}
 use Rattle.division.proofs.GrevlexPlaces.{place-grevlex, place-monotone, place-degree}
-use Rattle.division.proofs.AddedTerms.{work-place, adds-work, adds-holds}
+use Rattle.division.proofs.AddedTerms.{adds-work, adds-holds}
 use Rattle.division.proofs.MultipleCoefficients.{raised, multiple-top, multiple-above}
 use Rattle.division.proofs.ClearedMonomials.{Clears, idle, subtracted, stuck}
 use Rattle.division.proofs.KeptNormalForms.{NF-added, NF-top, NF-zero}
@@ -149,9 +148,6 @@ module _ {b : StoredBasis} {w₀ w : List ℕ} {m : Row b.n} {at : ℕ} (s : Swe
 
     pub swept-place : at - 1 ≡ place b.n m'
     swept-place = omega (arith, s.the_place)
-
-    pub swept-inside : (at - 1 < space) × (at - 1 < length w)
-    swept-inside = let (k, l) = work-place b.p b.n m' s.work s.sound.variables.most swept-low in (omega (arith, swept-place), omega (arith, swept-place))
 
     rest : ZeroAbove b.n (suc (place b.n m')) w
     rest a l = s.above a (omega (arith, s.the_place))

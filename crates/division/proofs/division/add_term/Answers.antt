@@ -7,11 +7,6 @@ use Rattle.division.specs.GrevlexPlace.{place}
 use Rattle.division.proofs.AddedTerms.{adds-store}
 use Rattle.division.proofs.division.add_term.Goals as goal
 
-pub add-requires : goal.add-requires
-add-requires c =
-    let pre = c.requires in
-    (rw c.place-at.ensures.value (pre.work.residues _), pre.residue, pre.work.modulus.size)
-
 pub returns : goal.returns
 returns c =
     let n = c.args.n in

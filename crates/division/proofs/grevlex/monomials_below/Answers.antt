@@ -1,5 +1,5 @@
 -- `monomials_below` meets its contract. The loop's invariant: the count is that of j variables.
-use mathlib.Core.Path.{◌≡◌, refl}
+use mathlib.Core.Path.{refl}
 use native.Mathlib.Omega.{arith}
 use native.Mathlib.Numerals.{add-one}
 use Rattle.division.specs.GrevlexPlace.{monomials_below}
@@ -17,8 +17,3 @@ overflow_mul-count c =
 
 pub loop-j-preserved : goal.loop-j-preserved
 loop-j-preserved c = rw (c.loop-j.invariant, add-one) (below-divided c.loop-j.j c.args.d)
-
-pub returns : goal.returns
-returns c =
-    let e : c.loop-j.j ≡ c.args.k = omega arith in
-    rw e at c.loop-j.invariant

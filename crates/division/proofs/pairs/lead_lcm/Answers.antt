@@ -1,10 +1,7 @@
 -- `lead_lcm` meets its contract.
-use mathlib.Core.Path.{◌∙◌, ap, ap₂}
+use mathlib.Core.Path.{ap}
 use native.Mathlib.Omega.{arith}
 use lib.ListN.{length}
-use Rattle.lines.specs.LineTerms.{monomial_at}
-use Rattle.monomial.specs.Quotients.{lcm}
-use Rattle.monomial.specs.Represented.{row}
 use Rattle.monomial.proofs.Places.{row-monomial}
 use Rattle.staircase.proofs.LineElements.{generator-read}
 use Rattle.division.proofs.pairs.lead_lcm.Goals as goal
