@@ -40,7 +40,6 @@ unfoldable pub term_multiple : (p : ℕ) (h : 1 < p) (n c : ℕ) → Row n → L
 term_multiple p h n c u t = (residue p h (product_mod p c t.coefficient.0), product n u (row n t.monomial))
 
 pub record AddedFirst (p n : ℕ) (w₀ w : List ℕ) (c : ℕ) (u : Row n) (g : List LineTerm) (k : ℕ) : Type 0 where
-  pub within : k ≤ length g
   pub adds : AddsPolynomial p n w₀ w (λ h. map (term_multiple p h n c u) (take k g))
 
 -- All of them.
@@ -72,14 +71,13 @@ module _ (p n : ℕ) (u : Row n) (g : List LineTerm) (s : SoundLine p n g) (k : 
 
 module _ (p n : ℕ) {w₀ : List ℕ} (c : ℕ) (u : Row n) (g : List LineTerm) where
   pub added-start : Residues p n w₀ → AddedFirst p n w₀ w₀ c u g 0
-  added-start r = record { within = omega arith; adds = adds_none p n w₀ r }
+  added-start r = record { adds = adds_none p n w₀ r }
 
   module _ (k : ℕ) {w : List ℕ} (f : AddedFirst p n w₀ w c u g k) where
     pub added-turn : {w' : List ℕ} (d : LineTerm) → k < length g → {x : ℕ} {m : Row n} → x ≡ product_mod p c (get_or g k d).coefficient.0
         → m ≡ product n u (row n (get_or g k d).monomial) → AddsPolynomial p n w w' (λ h. (residue p h x, m) ∷ []) → AddedFirst p n w₀ w' c u g (k + 1)
     unfolding term_multiple
     added-turn d l {x} {m} q r e = record {
-      within = omega arith;
       adds = adds_same p n (λ h v. ap (λ t. coef (modulo p h) (monomials n) t v) (next h)) (adds-append p n f.adds e);
     }
       where

@@ -1,8 +1,8 @@
 -- The pairs of lines in turn, by later line and then by earlier line, until one fails.
---   EarlierPassed b j w₀ w i   the pairs of line j with the first i lines passed, and the array holds zero
---   earlier-turn, earlier-stop    a pair that passes, and the end
---   LinesPassed b w₀ w j       so do the pairs of the first j lines with earlier lines
---   lines-turn, lines-found, lines-stop   a line that passes, one that fails, and the end
+--   EarlierPassed b j w i                 the pairs of line j with the first i lines passed, and the array holds zero
+--   earlier-turn, earlier-stop            a turn whose pair passes, and the end
+--   LinesPassed b w j                     the pairs of the first j lines with earlier lines passed; likewise
+--   lines-turn, lines-found, lines-stop   a turn whose line passes, one whose line fails, and the end
 use mathlib.Core.Path.{◌≡◌, sym, ◌∙◌}
 use mathlib.Core.Bool.{Bool, true, false, false≢true}
 use mathlib.Core.List.{List}
@@ -16,18 +16,14 @@ use Rattle.staircase.proofs.SmallestLine.{smallest-found, smallest-none}
 use Rattle.division.specs.PairRemainders.{PairableOn, PairFails, PairSays, EarlierSays, FirstFailing}
 use Rattle.division.proofs.FailingPlaces.{failing-places}
 
-pub record EarlierPassed (b : StoredBasis) (j : ℕ) (w₀ w : List ℕ) (i : ℕ) : Type 0 where
-  pub within : i ≤ j
-  pub size : length w ≡ length w₀
+pub record EarlierPassed (b : StoredBasis) (j : ℕ) (w : List ℕ) (i : ℕ) : Type 0 where
   pub ready : PairableOn b w
   pub passed : (k : ℕ) → k < i → (h : 1 < b.p) → ¬ PairFails b h k j
 
-module _ {b : StoredBasis} {j : ℕ} {w₀ w : List ℕ} {i : ℕ} (s : EarlierPassed b j w₀ w i) where
+module _ {b : StoredBasis} {j : ℕ} {w : List ℕ} {i : ℕ} (s : EarlierPassed b j w i) where
   module _ {w' : List ℕ} {r : Bool} (l : i < j) (a : PairSays b i j w' r) where
-    pub earlier-turn : length w' ≡ length w → r ≡ false → EarlierPassed b j w₀ w' (i + 1)
-    earlier-turn e q = record {
-      within = omega arith;
-      size = e ∙ s.size;
+    pub earlier-turn : r ≡ false → EarlierPassed b j w' (i + 1)
+    earlier-turn q = record {
       ready = record { pairs = s.ready.pairs; work = a.work; zero = a.zero q };
       passed = below_more _ _ s.passed (λ h f. false≢true (sym q ∙ (a.verdict h).1 f));
     }
@@ -39,18 +35,14 @@ module _ {b : StoredBasis} {j : ℕ} {w₀ w : List ℕ} {i : ℕ} (s : EarlierP
     zero = λ _. s.ready.zero;
   }
 
-pub record LinesPassed (b : StoredBasis) (w₀ w : List ℕ) (j : ℕ) : Type 0 where
-  pub within : j ≤ length b.lines.items
-  pub size : length w ≡ length w₀
+pub record LinesPassed (b : StoredBasis) (w : List ℕ) (j : ℕ) : Type 0 where
   pub ready : PairableOn b w
   pub passed : (k : ℕ) → k < j → (h : 1 < b.p) → ¬ ((i : ℕ) × (i < k) × PairFails b h i k)
 
-module _ {b : StoredBasis} {w₀ w : List ℕ} {j : ℕ} (s : LinesPassed b w₀ w j) where
+module _ {b : StoredBasis} {w : List ℕ} {j : ℕ} (s : LinesPassed b w j) where
   module _ {w' : List ℕ} {r : Bool} (l : j < length b.lines.items) (a : EarlierSays b j w' r) where
-    pub lines-turn : length w' ≡ length w → r ≡ false → LinesPassed b w₀ w' (j + 1)
-    lines-turn e q = record {
-      within = omega arith;
-      size = e ∙ s.size;
+    pub lines-turn : r ≡ false → LinesPassed b w' (j + 1)
+    lines-turn q = record {
       ready = record { pairs = s.ready.pairs; work = a.work; zero = a.zero q };
       passed = below_more _ _ s.passed (λ h f. false≢true (sym q ∙ (a.verdict h).1 f));
     }

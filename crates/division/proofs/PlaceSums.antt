@@ -16,14 +16,13 @@ use Rattle.division.proofs.Binomials.{below-space}
 use Rattle.division.proofs.GrevlexPlaces.{prefix-degree, prefix-more, place-more, first-bound, place-bound}
 
 pub record PlaceSum (n : ℕ) (a : Row n) (i sum at : ℕ) : Type 0 where
-  pub within : i ≤ n
   pub the_sum : sum ≡ prefix_sum n a i
   pub the_place : at ≡ place_of_first n a i
 
 module _ (n : ℕ) (a : Row n) where
   pub place-sum-start : PlaceSum n a 0 0 0
   unfolding place_of_first
-  place-sum-start = record { within = omega arith; the_sum = refl; the_place = refl }
+  place-sum-start = record { the_sum = refl; the_place = refl }
 
   module _ (few : n ≤ most_variables) (low : degree n a ≤ most_degree) where
     pub place-fits : place n a < space
@@ -40,11 +39,11 @@ module _ (n : ℕ) (a : Row n) where
           omega (arith, first, below-space (i + 1) t (omega arith) q, below-space i (suc most_degree) (omega arith) (omega arith))
 
       pub place-sum-turn : (v x t : ℕ) → t ≡ sum + x → x ≡ exponent n a i → v ≡ monomials_below (i + 1) t → PlaceSum n a (i + 1) t (at + v)
-      place-sum-turn v x t f d e = record { within = omega arith; the_sum = q; the_place = omega (arith, place-more n a i, e, ap (monomials_below (i + 1)) q) }
+      place-sum-turn v x t f d e = record { the_sum = q; the_place = omega (arith, place-more n a i, e, ap (monomials_below (i + 1)) q) }
         where
           q : t ≡ prefix_sum n a (i + 1)
           q = omega (arith, prefix-more n a i)
 
-  pub place-sum-stop : (i sum at : ℕ) → PlaceSum n a i sum at → n ≤ i → at ≡ place n a
+  pub place-sum-stop : (i sum at : ℕ) → PlaceSum n a i sum at → i ≡ n → at ≡ place n a
   unfolding place
-  place-sum-stop i sum at s h = let e : i ≡ n = omega arith in s.the_place ∙ ap (place_of_first n a) e
+  place-sum-stop i sum at s e = s.the_place ∙ ap (place_of_first n a) e

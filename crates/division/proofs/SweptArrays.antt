@@ -1,5 +1,4 @@
 -- The division of what an array holds, one monomial a turn from the greatest down: the normal form is kept.
---   clears-length                         a turn leaves the array's length the same
 --   KeepsNormalForm b sound w w'          what w' holds has the normal form of what w holds
 --   Swept b w₀ w m at                     down to m, which stands at the place `at`: at m and above it the array is zero, and the normal form is kept
 --   swept-start                           before the first turn
@@ -14,7 +13,7 @@ use Prim.Native.Nat.{ℕ, suc, ◌-◌, ◌≤◌, ◌<◌}
 use native.Mathlib.Nat.{mod-lt}
 use native.Mathlib.Decide.{ℕ_discrete}
 use native.Mathlib.Omega.{arith}
-use lib.ListN.{length, get_or}
+use lib.ListN.{get_or}
 use Rattle.residue.specs.Modular.{sum_mod, negation_mod}
 use Rattle.residue.specs.Field.{ZMod, modulo}
 use Rattle.residue.proofs.ResidueField.{residue-ring}
@@ -44,11 +43,6 @@ use Rattle.division.proofs.MultipleCoefficients.{raised, multiple-top, multiple-
 use Rattle.division.proofs.ClearedMonomials.{Clears, idle, subtracted, stuck}
 use Rattle.division.proofs.KeptNormalForms.{NF-added, NF-top, NF-zero}
 use Rattle.division.proofs.BasisSystem.{ring_of, lines-low, system_of, earliest-line, irreducible-at}
-
-pub clears-length : {b : StoredBasis} {m : Row b.n} {w w' : List ℕ} {r : Bool} → Clears b m w w' r → length w' ≡ length w
-clears-length (idle e q) = ap length q
-clears-length (subtracted j f a) = a.length
-clears-length (stuck e f q) = ap length q
 
 -- Where the array is zero, so is the coefficient.
 coefficient-zero : (p : ℕ) (h : 1 < p) (n : ℕ) (w : List ℕ) (f : Poly (ZMod p) (Row n)) (a : Row n)
@@ -115,7 +109,6 @@ module _ (b : StoredBasis) (sound : Sound b) where
 
 pub record Swept (b : StoredBasis) (w₀ w : List ℕ) (m : Row b.n) (at : ℕ) : Type 0 where
   pub sound : Sound b
-  pub size : length w ≡ length w₀
   pub work : Work b.p b.n w
   pub the_place : at ≡ place b.n m
   pub low : degree b.n m ≤ most_degree
@@ -125,7 +118,6 @@ pub record Swept (b : StoredBasis) (w₀ w : List ℕ) (m : Row b.n) (at : ℕ) 
 pub swept-start : {b : StoredBasis} {w : List ℕ} {m : Row b.n} {at : ℕ} → Dividend b w m → at ≡ place b.n m → Swept b w w m at
 swept-start d e = record {
   sound = d.sound;
-  size = refl;
   work = d.work;
   the_place = e;
   low = d.low;
@@ -155,7 +147,6 @@ module _ {b : StoredBasis} {w₀ w : List ℕ} {m : Row b.n} {at : ℕ} (s : Swe
     pub swept-turn : {w' : List ℕ} → Clears b m' w w' true → Swept b w₀ w' m' (at - 1)
     swept-turn {w'} c = record {
       sound = s.sound;
-      size = clears-length c ∙ s.size;
       work = clears-work b s.sound w w' m' s.work rest c;
       the_place = swept-place;
       low = swept-low;

@@ -38,7 +38,13 @@ fn add_product(work: &mut [u16], c: Residue, u: Monomial, g: &[LineTerm], p: u16
     ensures { AddsPolynomial p n work.old work.new (product_of p n g.now c.0 (row n u)) }
 {
     for t in g {
-        add_term(work, c.mul(t.coefficient, p), u.product(t.monomial, n), p, n);
+        add_term(
+            work,
+            c.mul(t.coefficient, p),
+            u.product(t.monomial, n),
+            p,
+            n,
+        );
     }
 }
 

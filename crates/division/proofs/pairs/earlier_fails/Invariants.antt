@@ -3,4 +3,4 @@ use Rattle.division.proofs.PairSearch.{EarlierPassed}
 use Rattle.division.proofs.pairs.earlier_fails.Given as goal
 
 abbrev pub invariant-loop-i : goal.invariant-loop-i
-invariant-loop-i l = EarlierPassed l.basis l.j l.initial.work l.work l.i
+invariant-loop-i l = EarlierPassed l.basis l.j l.work l.i

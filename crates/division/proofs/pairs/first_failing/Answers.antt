@@ -9,7 +9,7 @@ returns-then-earlier_fails c =
 
 pub loop-j-preserved : goal.loop-j-preserved
 loop-j-preserved c =
-    lines-turn c.loop-j.invariant (omega arith) c.earlier_fails.ensures (omega arith) c.if-earlier_fails.false
+    lines-turn c.loop-j.invariant (omega arith) c.earlier_fails.ensures c.if-earlier_fails.false
 
 pub returns : goal.returns
 returns c = lines-stop c.loop-j.invariant (omega arith)

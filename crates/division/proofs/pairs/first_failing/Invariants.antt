@@ -3,4 +3,4 @@ use Rattle.division.proofs.PairSearch.{LinesPassed}
 use Rattle.division.proofs.pairs.first_failing.Given as goal
 
 abbrev pub invariant-loop-j : goal.invariant-loop-j
-invariant-loop-j l = LinesPassed l.basis l.initial.work l.work l.j
+invariant-loop-j l = LinesPassed l.basis l.work l.j
