@@ -27,14 +27,14 @@ use Rattle.coordinates.specs.declared.Coordinates.{Coordinates}
 use Rattle.std.specs.Prelude.{Option, Some, None}
 use Rattle.coordinates.proofs.VectorEntries.{vector-entry}
 use Rattle.coordinates.proofs.FirstPlaces.{first_place, first-of-place}
-use Rattle.fglm.specs.RowState.{State, residual_of, reduced_row, no_row, row_at, state_of, SoundRow, SoundRows}
+use Rattle.fglm.specs.RowState.{State, augmented_row, reduced_row, no_row, row_at, state_of, SoundRow, SoundRows}
 use Rattle.fglm.specs.Elimination.{nothing, LeftOf}
 use Rattle.fglm.specs.Steps.{Dependence, Scaled, ClearedRow, ClearedRows, Inserted}
+use Rattle.fglm.specs.declared.elimination.AugmentedVector.{AugmentedVector}
 use Rattle.fglm.specs.declared.elimination.Reduced.{Reduced}
-use Rattle.fglm.specs.declared.elimination.Residual.{Residual}
 use Rattle.fglm.specs.declared.elimination.Rows.{Rows}
 use Rattle.fglm.proofs.Residues.{table_inverse}
-use Rattle.fglm.proofs.RowSteps.{sound-residual}
+use Rattle.fglm.proofs.RowSteps.{less-sound, times-sound}
 use Rattle.fglm.proofs.ListElimination.{less, scaled, cleared, inserted, chosen, eliminated, eliminated-first}
 
 -- The answer to a vector of the code.
@@ -51,36 +51,36 @@ map-take f g d (suc n) [] m a b e = absurd (omega arith)
 map-take f g d (suc n) (x ∷ l) [] a b e = absurd (omega arith)
 map-take f g d (suc n) (x ∷ l) (y ∷ m) a b e = ap₂ ◌∷◌ (e 0 (omega arith)) (map-take f g d n l m (omega arith) (omega arith) (λ k h. e (suc k) (omega arith)))
 
-module _ (t : Reciprocals) {s : Rows} {v : Coordinates} {x : Residual} (left : LeftOf t.field.p s v x) where
+module _ (t : Reciprocals) {s : Rows} {v : Coordinates} {x : AugmentedVector} (left : LeftOf t.field.p s v x) where
   abbrev p : ℕ
   p = t.field.p
 
-  pub answer-left : (prime : Prime p) (o : Option ℕ) → FirstPlace x.row o
-      → answer t prime s v ≡ chosen p prime.above_one (table_inverse t prime.above_one) (state_of p prime.above_one s) (residual_of p prime.above_one x) (first_place o)
+  pub answer-left : (prime : Prime p) (o : Option ℕ) → FirstPlace x.vector o
+      → answer t prime s v ≡ chosen p prime.above_one (table_inverse t prime.above_one) (state_of p prime.above_one s) (augmented_row p prime.above_one x) (first_place o)
   unfolding answer
   answer-left prime o f =
-      eliminated-first p h (residue-field p prime) (nothing p) (table_inverse t h) (state_of p h s) s.used (vector p h v) (residual_of p h x)
-      (left.left h (residue-field p prime)) (first_place o) (first-of-place p h x.row left.sound.row_below o f)
+      eliminated-first p h (residue-field p prime) (nothing p) (table_inverse t h) (state_of p h s) s.used (vector p h v) (augmented_row p h x)
+      (left.left h (residue-field p prime)) (first_place o) (first-of-place p h x.vector left.sound.vector_below o f)
     where
       h : 1 < p
       h = prime.above_one
 
-  pub answer-dependent : {c : Coordinates} → FirstPlace x.row None → Dependence p x c → (prime : Prime p) → answer t prime s v ≡ inl (vector p prime.above_one c)
+  pub answer-dependent : {c : Coordinates} → FirstPlace x.vector None → Dependence p x c → (prime : Prime p) → answer t prime s v ≡ inl (vector p prime.above_one c)
   answer-dependent f r prime = let h = prime.above_one in
       answer-left prime None f
       ∙ ap inl (sym (r.residues h ∙ ap (λ y. multiply (modulo p h) y (vector p h x.combination)) (residue-negation p h 1 h ∙ ap (modulo p h).neg (residue-one p h))))
 
-  module _ {k : ℕ} (first : FirstPlace x.row (Some k)) where
+  module _ {k : ℕ} (first : FirstPlace x.vector (Some k)) where
     module _ {q : Reduced} (made : Scaled t x k q) where
       pub row_scaled : SoundRow p q
-      row_scaled = record { place = subst (◌< most_standard) (sym made.pivot) first.0; vectors = sound-residual made.row made.combination }
+      row_scaled = record { place = subst (◌< most_standard) (sym made.pivot) first.0; row = times-sound made.row }
 
       -- The row as a list of residues.
-      scaled-is : (h : 1 < p) → reduced_row p h q ≡ scaled p h (table_inverse t h (get_or (vector p h x.row) k (modulo p h).zero)) (residual_of p h x) k
+      scaled-is : (h : 1 < p) → reduced_row p h q ≡ scaled p h (table_inverse t h (get_or (vector p h x.vector) k (modulo p h).zero)) (augmented_row p h x) k
       unfolding table_inverse
-      scaled-is h = (λ i. record { row = record { vector = made.row.residues h i; combination = made.combination.residues h i }; pivot = made.pivot i })
-          ∙ ap (λ c. scaled p h c (residual_of p h x) k)
-          (ap (λ n. residue p h (entry t.table n)) (sym (ap (λ (z : ZMod p). z.0) (vector-entry p h x.row k) ∙ residue-below p h _ (left.sound.row_below.below k))))
+      scaled-is h = (λ i. record { row = record { vector = made.row.vector.residues h i; combination = made.row.combination.residues h i }; pivot = made.pivot i })
+          ∙ ap (λ c. scaled p h c (augmented_row p h x) k)
+          (ap (λ n. residue p h (entry t.table n)) (sym (ap (λ (z : ZMod p). z.0) (vector-entry p h x.vector k) ∙ residue-below p h _ (left.sound.vector_below.below k))))
 
       module _ {s' : Rows} (clears : ClearedRows p q s s') (size : length s.rows ≡ most_standard) (sound : SoundRows p s) (room : s.used < most_standard) where
         abbrev grown_rows : Rows
@@ -101,12 +101,12 @@ module _ (t : Reciprocals) {s : Rows} {v : Coordinates} {x : Residual} (left : L
             other : (i : ℕ) → i < s.used → SoundRow p (row_at grown_rows i)
             other i l = subst (SoundRow p) (sym (get_or-set_other s'.rows s.used i q no_row (omega arith))) (record {
               place = subst (◌< most_standard) (sym (clears.rows i l).pivot) (sound.rows i l).place;
-              vectors = sound-residual (clears.rows i l).row (clears.rows i l).combination;
+              row = less-sound (clears.rows i l).row;
             })
 
         cleared-is : (h : 1 < p) (r r' : Reduced) → ClearedRow p q r r' → reduced_row p h r' ≡ cleared p h (reduced_row p h q) (reduced_row p h r)
-        cleared-is h r r' c = (λ i. record { row = record { vector = c.row.residues h i; combination = c.combination.residues h i }; pivot = c.pivot i })
-            ∙ ap (λ z. record { row = less p h (reduced_row p h r).row z (reduced_row p h q).row; pivot = r.pivot }) (sym (vector-entry p h r.row q.pivot))
+        cleared-is h r r' c = (λ i. record { row = record { vector = c.row.vector.residues h i; combination = c.row.combination.residues h i }; pivot = c.pivot i })
+            ∙ ap (λ z. record { row = less p h (reduced_row p h r).row z (reduced_row p h q).row; pivot = r.pivot }) (sym (vector-entry p h r.row.vector q.pivot))
 
         state-grown : (h : 1 < p) → state_of p h grown_rows ≡ inserted p h (reduced_row p h q) (state_of p h s)
         unfolding state_of

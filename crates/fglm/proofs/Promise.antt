@@ -32,7 +32,7 @@ use Rattle.std.specs.Prelude.{Option, Some, None}
 use Rattle.coordinates.proofs.VectorEntries.{length-vector}
 use Rattle.fglm.specs.RowState.{State, reduced_row, state_of, SoundRows}
 use Rattle.fglm.specs.Elimination.{nothing, LeftOf}
-use Rattle.fglm.specs.declared.elimination.Residual.{Residual}
+use Rattle.fglm.specs.declared.elimination.AugmentedVector.{AugmentedVector}
 use Rattle.fglm.specs.declared.elimination.Rows.{Rows}
 use Rattle.fglm.proofs.Images.{Image, EchelonOf, Answers}
 use Rattle.fglm.proofs.Residues.{table_inverse, inverse-law}
@@ -104,7 +104,7 @@ module _ (t : Reciprocals) (prime : Prime t.field.p) {M : Type 0} (L : M → ℕ
   enough-room rs e = omega (arith, few-rows p h field L rs _ (answers (inr rs) e).0, length-append B (m ∷ []), count)
 
   -- So nothing is left of v exactly if the image of m is a combination of the images of B.
-  pub dependent-exactly : {x : Residual} → LeftOf p s v x → (f : Option ℕ) → FirstPlace x.row f → (f ≡ None) ↔ LinearSpan 𝓥 L (λ b. b ∈ B) (L m)
+  pub dependent-exactly : {x : AugmentedVector} → LeftOf p s v x → (f : Option ℕ) → FirstPlace x.vector f → (f ≡ None) ↔ LinearSpan 𝓥 L (λ b. b ∈ B) (L m)
   dependent-exactly left None first = let w = answers (inl _) (answer-left t left prime None first) in (λ e. (polynomial_of B _, w.0, w.1), λ i. refl)
   dependent-exactly left (Some k) first = (λ e. absurd (distinct e), λ i. absurd ((answers (inr _) (answer-left t left prime (Some k) first)).1 i))
     where

@@ -11,8 +11,8 @@ use Rattle.groebner.proofs.RowElimination.{reduce_row}
 use Rattle.lines.specs.Sizes.{most_standard}
 use Rattle.coordinates.specs.Vectors.{vector, unit_vector}
 use Rattle.coordinates.specs.declared.Coordinates.{Coordinates}
-use Rattle.fglm.specs.RowState.{AugmentedRow, State, residual_of, state_of, SoundResidual}
-use Rattle.fglm.specs.declared.elimination.Residual.{Residual}
+use Rattle.fglm.specs.RowState.{AugmentedRow, State, augmented_row, state_of, SoundVector}
+use Rattle.fglm.specs.declared.elimination.AugmentedVector.{AugmentedVector}
 use Rattle.fglm.specs.declared.elimination.Rows.{Rows}
 
 -- Row elimination over lists of residues; L is what the combinations are of.
@@ -28,7 +28,7 @@ abbrev pub nothing : (p : ℕ) → ⊥ → ℕ → ZMod p
 nothing p e k = absurd e
 
 -- x is what the rows s leave of v, and the combination that this is.
-pub record LeftOf (p : ℕ) (s : Rows) (v : Coordinates) (x : Residual) : Type 0 where
-  pub sound : SoundResidual p x
+pub record LeftOf (p : ℕ) (s : Rows) (v : Coordinates) (x : AugmentedVector) : Type 0 where
+  pub sound : SoundVector p x
   pub left : (h : 1 < p) (field : Field (modulo p h))
-      → residual_of p h x ≡ reduced p h field (nothing p) (state_of p h s) (record { vector = vector p h v; combination = unit_vector p s.used h }) (vector p h v)
+      → augmented_row p h x ≡ reduced p h field (nothing p) (state_of p h s) (record { vector = vector p h v; combination = unit_vector p s.used h }) (vector p h v)

@@ -1,5 +1,6 @@
 -- Inner contracts. What the steps of the elimination give.
---   LessRow p x c r y          y is x less c times the row r
+--   LessMultiple p x c w y             y is x less c times w
+--   TimesNumber p x c y              y is c times x
 --   Dependence p x c           c is the opposite of the combination of x
 --   Scaled t x k q             q is x made one at place k, with the pivot k
 --   ClearedRow p q r r'        r' is the row r cleared at q's pivot
@@ -12,30 +13,33 @@ use Rattle.residue.specs.declared.reciprocals.Reciprocals.{Reciprocals}
 use Rattle.coordinates.specs.Vectors.{coordinate, Represents, subtracted, multiplied}
 use Rattle.coordinates.specs.declared.Coordinates.{Coordinates}
 use Rattle.fglm.specs.RowState.{row_at}
+use Rattle.fglm.specs.declared.elimination.AugmentedVector.{AugmentedVector}
 use Rattle.fglm.specs.declared.elimination.Reduced.{Reduced}
-use Rattle.fglm.specs.declared.elimination.Residual.{Residual}
 use Rattle.fglm.specs.declared.elimination.Rows.{Rows}
 
--- y is x less c times the row r.
-pub record LessRow (p : ℕ) (x : Residual) (c : ℕ) (r : Reduced) (y : Residual) : Type 0 where
-  pub row : Represents p y.row (subtracted p x.row c r.row)
-  pub combination : Represents p y.combination (subtracted p x.combination c r.combination)
+-- y is x less c times w.
+pub record LessMultiple (p : ℕ) (x : AugmentedVector) (c : ℕ) (w y : AugmentedVector) : Type 0 where
+  pub vector : Represents p y.vector (subtracted p x.vector c w.vector)
+  pub combination : Represents p y.combination (subtracted p x.combination c w.combination)
+
+-- y is c times x.
+pub record TimesNumber (p : ℕ) (x : AugmentedVector) (c : ℕ) (y : AugmentedVector) : Type 0 where
+  pub vector : Represents p y.vector (multiplied p c x.vector)
+  pub combination : Represents p y.combination (multiplied p c x.combination)
 
 -- c is the opposite of the combination of x.
-abbrev pub Dependence : (p : ℕ) → Residual → Coordinates → Type 0
+abbrev pub Dependence : (p : ℕ) → AugmentedVector → Coordinates → Type 0
 Dependence p x c = Represents p c (multiplied p (negation_mod p 1) x.combination)
 
 -- q is x times the reciprocal of its entry at place k, with the pivot k.
-pub record Scaled (t : Reciprocals) (x : Residual) (k : ℕ) (q : Reduced) : Type 0 where
+pub record Scaled (t : Reciprocals) (x : AugmentedVector) (k : ℕ) (q : Reduced) : Type 0 where
   pub pivot : q.pivot ≡ k
-  pub row : Represents t.field.p q.row (multiplied t.field.p (entry t.table (coordinate x.row k)) x.row)
-  pub combination : Represents t.field.p q.combination (multiplied t.field.p (entry t.table (coordinate x.row k)) x.combination)
+  pub row : TimesNumber t.field.p x (entry t.table (coordinate x.vector k)) q.row
 
 -- r' is the row r less the multiple of q that makes it zero at q's pivot.
 pub record ClearedRow (p : ℕ) (q r r' : Reduced) : Type 0 where
   pub pivot : r'.pivot ≡ r.pivot
-  pub row : Represents p r'.row (subtracted p r.row (coordinate r.row q.pivot) q.row)
-  pub combination : Represents p r'.combination (subtracted p r.combination (coordinate r.row q.pivot) q.combination)
+  pub row : LessMultiple p r.row (coordinate r.row.vector q.pivot) q.row r'.row
 
 -- The rows of s' are those of s, cleared at q's pivot.
 pub record ClearedRows (p : ℕ) (q : Reduced) (s s' : Rows) : Type 0 where

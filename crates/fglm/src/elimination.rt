@@ -2,80 +2,88 @@
 ghost use Rattle.std.specs.Prelude.{◌≡◌, ◌<◌};
 ghost use Rattle.lines.specs.Sizes.{most_standard};
 ghost use Rattle.coordinates.specs.Vectors.{coordinate, Below, FirstPlace};
-ghost use Rattle.fglm.specs.RowState.{SoundResidual, SoundRow, SoundRows};
+ghost use Rattle.fglm.specs.RowState.{SoundVector, SoundRow, SoundRows};
 ghost use Rattle.fglm.specs.Elimination.{LeftOf};
-ghost use Rattle.fglm.specs.Steps.{LessRow, Dependence, Scaled, ClearedRow, Inserted};
+ghost use Rattle.fglm.specs.Steps.{Dependence, LessMultiple, TimesNumber, Scaled, ClearedRow, Inserted};
 
 use coordinates::Coordinates;
-use coordinates::vectors::{first_nonzero, multiply, subtract_multiple, unit};
+use coordinates::vectors::{first_nonzero, multiply, subtract_multiple};
 use lines::sizes::MAX_STANDARD;
 use residue::Residue;
 use residue::field::PrimeField;
 use residue::reciprocals::Reciprocals;
 
-// A vector that is 1 at its pivot, and the combination of the added vectors that it is.
+// A vector, and the combination of the added vectors that it is; what is left of a vector is one, with that vector as the last.
 #[derive(Clone, Copy)]
-pub struct Reduced {
-    pub pivot: usize,
-    pub row: Coordinates,
+pub struct AugmentedVector {
+    pub vector: Coordinates,
     pub combination: Coordinates,
 }
 
+// A row, of which the vector is 1 at the pivot.
+#[derive(Clone, Copy)]
+pub struct Reduced {
+    pub pivot: usize,
+    pub row: AugmentedVector,
+}
+
 // The first of the array; coefficient k of a combination is that of the k-th vector that was added.
+// An array of row structs with a count, handed back by value: this form of the state was settled (document 01).
 #[derive(Clone, Copy)]
 pub struct Rows {
     pub used: usize,
     pub rows: [Reduced; MAX_STANDARD],
 }
 
-// What is left of a vector, and the combination of the added vectors and it that this is.
-#[derive(Clone, Copy)]
-pub struct Residual {
-    pub row: Coordinates,
-    pub combination: Coordinates,
-}
-
-impl Residual {
+// That the entries are below p is said in clauses, by SoundVector, SoundRow and SoundRows: a row has neither the modulus nor the vectors added before.
+impl AugmentedVector {
     // A pivot, if anything is left; else the vector depends on those added before.
     pub fn found(self) -> Option<usize>
-        ensures { FirstPlace self.row result }
+        ensures { FirstPlace self.vector result }
     {
-        first_nonzero(self.row)
+        first_nonzero(self.vector)
     }
 
     // If nothing is left, the combination of the vectors added before that the vector is.
     pub fn dependence(self, field: PrimeField) -> Coordinates
-        requires { SoundResidual field.p self }
+        requires { SoundVector field.p self }
         ensures { Dependence field.p self result }
     {
         let minus_one = Residue::ONE.neg(field.p);
         multiply(minus_one, self.combination, field)
     }
 
-    // Less c times a row.
-    fn less(self, c: Residue, r: Reduced, field: PrimeField) -> Residual
-        requires { SoundResidual field.p self × (c.0 < field.p) × SoundRow field.p r }
-        ensures { LessRow field.p self c.0 r result }
+    // Less c times another.
+    fn less(self, c: Residue, other: AugmentedVector, field: PrimeField) -> AugmentedVector
+        requires { SoundVector field.p self × (c.0 < field.p) × SoundVector field.p other }
+        ensures { LessMultiple field.p self c.0 other result }
     {
-        let row = r.row;
-        let combination = r.combination;
-        Residual {
-            row: subtract_multiple(self.row, c, row, field),
-            combination: subtract_multiple(self.combination, c, combination, field),
+        AugmentedVector {
+            vector: subtract_multiple(self.vector, c, other.vector, field),
+            combination: subtract_multiple(self.combination, c, other.combination, field),
+        }
+    }
+
+    // Times c.
+    fn times(self, c: Residue, field: PrimeField) -> AugmentedVector
+        requires { SoundVector field.p self × (c.0 < field.p) }
+        ensures { TimesNumber field.p self c.0 result }
+    {
+        AugmentedVector {
+            vector: multiply(c, self.vector, field),
+            combination: multiply(c, self.combination, field),
         }
     }
 
     // Times the reciprocal of the entry at place k: a row with the pivot k.
     pub fn scaled(self, k: usize, reciprocals: Reciprocals) -> Reduced
-        requires { SoundResidual reciprocals.field.p self × (k < most_standard) × ¬ (coordinate self.row k ≡ 0) }
+        requires { SoundVector reciprocals.field.p self × (k < most_standard) × ¬ (coordinate self.vector k ≡ 0) }
         ensures { Scaled reciprocals self k result }
     {
-        let row = self.row;
-        let c = reciprocals.of(row.c[k]);
+        let c = reciprocals.of(self.vector.c[k]);
         Reduced {
             pivot: k,
-            row: multiply(c, row, reciprocals.field),
-            combination: multiply(c, self.combination, reciprocals.field),
+            row: self.times(c, reciprocals.field),
         }
     }
 }
@@ -86,17 +94,10 @@ impl Reduced {
         requires { SoundRow field.p self × SoundRow field.p q }
         ensures { ClearedRow field.p q self result }
     {
-        let row = self.row;
-        let combination = self.combination;
-        let at = q.pivot;
-        let x = Residual { row, combination };
-        let y = x.less(row.c[at], q, field);
-        let row = y.row;
-        let combination = y.combination;
+        let c = self.row.vector.c[q.pivot];
         Reduced {
             pivot: self.pivot,
-            row,
-            combination,
+            row: self.row.less(c, q.row, field),
         }
     }
 }
@@ -109,8 +110,10 @@ impl Rows {
         let zero = Coordinates::zero();
         let row = Reduced {
             pivot: 0,
-            row: zero,
-            combination: zero,
+            row: AugmentedVector {
+                vector: zero,
+                combination: zero,
+            },
         };
         Rows {
             used: 0,
@@ -124,10 +127,9 @@ impl Rows {
         ensures { Inserted field.p q self result }
     {
         let at = self.used;
-        let k = q.pivot;
         for i in 0..at {
             let r = self.rows[i];
-            let c = r.row.c[k];
+            let c = r.row.vector.c[q.pivot];
             if c.0 != 0 {
                 self.rows[i] = r.cleared(q, field);
             }
@@ -138,18 +140,18 @@ impl Rows {
     }
 
     // v less each row times v's entry at its pivot; a row with the entry 0 is passed over.
-    pub fn residual(self, v: Coordinates, field: PrimeField) -> Residual
+    pub fn residual(self, v: Coordinates, field: PrimeField) -> AugmentedVector
         requires { SoundRows field.p self × Below field.p v }
         ensures { LeftOf field.p self v result }
     {
-        let mut x = Residual {
-            row: v,
-            combination: unit(self.used, field.p),
+        let mut x = AugmentedVector {
+            vector: v,
+            combination: Coordinates::unit(self.used),
         };
         for r in &self.rows[..self.used] {
             let c = v.c[r.pivot];
             if c.0 != 0 {
-                x = x.less(c, *r, field);
+                x = x.less(c, r.row, field);
             }
         }
         x

@@ -30,7 +30,7 @@ pub loop-r-init : goal.loop-r-init
 loop-r-init c =
     let u = c.unit.ensures in
     let (_, v) = c.requires in
-    reducing-start (record { row_whole = search (length-mapped, rules); combination_whole = u.whole; row_below = v; combination_below = u.below })
+    reducing-start (record { vector_whole = search (length-mapped, rules); combination_whole = u.whole; vector_below = v; combination_below = u.below })
 
 pub less-x-requires : goal.less-x-requires
 less-x-requires c =

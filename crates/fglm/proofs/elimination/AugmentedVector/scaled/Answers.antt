@@ -1,0 +1,24 @@
+-- `AugmentedVector::scaled` meets its contract: the reciprocal is that of the table.
+use mathlib.Core.Path.{refl}
+use native.Mathlib.Omega.{arith}
+use Rattle.fglm.proofs.Residues.{reciprocal-entry}
+use Rattle.fglm.proofs.elimination.AugmentedVector.scaled.Goals as goal
+
+pub of-c-requires : goal.of-c-requires
+of-c-requires c =
+    let (sound, _, nonzero) = c.requires in
+    (omega (arith, nonzero), sound.vector_below.below c.args.k)
+
+pub times-requires : goal.times-requires
+times-requires c =
+    let (sound, _, _) = c.requires in
+    let (_, below) = c.of-c.ensures in
+    (sound, below)
+
+pub returns : goal.returns
+returns c =
+    let (sound, _, nonzero) = c.requires in
+    let (inverse, below) = c.of-c.ensures in
+    let t = c.args.reciprocals in
+    let e = reciprocal-entry t t.field.prime.prime.above_one _ _ (omega (arith, nonzero)) (sound.vector_below.below c.args.k) inverse below in
+    record { pivot = refl; row = rw e at c.times.ensures }
