@@ -4,17 +4,6 @@ use native.Mathlib.Omega.{arith}
 use Rattle.fglm.proofs.Residues.{reciprocal-entry}
 use Rattle.fglm.proofs.elimination.AugmentedVector.scaled.Goals as goal
 
-pub of-c-requires : goal.of-c-requires
-of-c-requires c =
-    let (sound, _, nonzero) = c.requires in
-    (omega (arith, nonzero), sound.vector_below.below c.args.k)
-
-pub times-requires : goal.times-requires
-times-requires c =
-    let (sound, _, _) = c.requires in
-    let (_, below) = c.of-c.ensures in
-    (sound, below)
-
 pub returns : goal.returns
 returns c =
     let (sound, _, nonzero) = c.requires in

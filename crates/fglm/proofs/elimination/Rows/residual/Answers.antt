@@ -8,7 +8,7 @@ use borrow.Author.Rules.{rules}
 use Rattle.lists.proofs.Elements.{length-mapped}
 use Rattle.lines.specs.Sizes.{most_standard}
 use Rattle.fglm.specs.RowState.{no_row, row_at}
-use Rattle.fglm.proofs.Reducing.{reducing-start, reducing-turn, reducing-skip, reducing-is, reducing-stop}
+use Rattle.fglm.proofs.Reducing.{reducing-turn, reducing-skip, reducing-is, reducing-stop}
 use Rattle.fglm.proofs.elimination.Rows.residual.Goals.{In-loop-r, Start, then-c-ne0, else-c-ne0}
 use Rattle.fglm.proofs.elimination.Rows.residual.Goals as goal
 
@@ -26,18 +26,6 @@ used c = omega (arith, length-take-le c.args.self.used c.args.self.rows (full (g
 is : (c : In-loop-r) → get_or (take c.args.self.used c.args.self.rows) c.loop-r.r-index no_row ≡ row_at c.args.self c.loop-r.r-index
 is c = get_or-take c.args.self.used c.args.self.rows c.loop-r.r-index no_row (used c)
 
-pub loop-r-init : goal.loop-r-init
-loop-r-init c =
-    let u = c.unit.ensures in
-    let (_, v) = c.requires in
-    reducing-start (record { vector_whole = search (length-mapped, rules); combination_whole = u.whole; vector_below = v; combination_below = u.below })
-
-pub less-x-requires : goal.less-x-requires
-less-x-requires c =
-    let (rows, v) = c.requires in
-    let k = (goal.at.less-x-requires c).In-loop-r in
-    (c.loop-r.invariant.sound, v.below _, rw (is k) (rows.rows c.loop-r.r-index (used k)))
-
 pub loop-r-preserved : goal.loop-r-preserved
 loop-r-preserved c =
     let (rows, _) = c.requires in
@@ -54,4 +42,4 @@ pub returns : goal.returns
 returns c =
     let s = (goal.at.returns c).Start in
     let end : c.args.self.used ≤ c.loop-r.r-index = omega (arith, length-take-le c.args.self.used c.args.self.rows (full s)) in
-    reducing-stop c.loop-r.invariant end (full s) refl c.unit.ensures
+    reducing-stop c.loop-r.invariant end (full s) refl (c.unit.ensures.represents c.args.field.p c.args.field.prime.prime.above_one)
