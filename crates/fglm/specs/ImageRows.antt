@@ -9,7 +9,6 @@
 use Rattle.std.specs.Prelude.{◌≡◌, List, ℕ, ◌*◌, ◌≤◌, ◌<◌, length, None}
 use Rattle.lists.specs.Lists.{◌∈◌}
 use Rattle.residue.specs.Field.{modulo}
-use Rattle.monomial.specs.Sizes.{most_variables}
 use Rattle.monomial.specs.Rows.{Row, one, product}
 use Rattle.monomial.specs.Quotients.{variable}
 use Rattle.monomial.specs.Represented.{row}
@@ -42,7 +41,6 @@ DivisorsFound n l m = (i : ℕ) → i < n → (b : Row n) → m ≡ product n (v
 
 -- What the row of m asks: arrays of their lengths with entries below p, the ranks of the standard monomials, and m over any of its variables among these.
 pub record ImageInput (p n : ℕ) (m : Monomial) (cells images ranks : List ℕ) (standard l : List Monomial) : Type 0 where
-  pub variables : n ≤ most_variables
   pub few : length l ≤ most_standard
   pub cells_size : length cells ≡ most_cells
   pub cells_below : AllBelow p (tables_of cells)

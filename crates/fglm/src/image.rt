@@ -46,6 +46,7 @@ pub fn image_of(
     let Some(i) = first_variable(m, n) else {
         return one_row(irreducibles, n);
     };
+    prove!(i < n.count());
     let b = over_variable(m, i, n);
     let s = rank_place(&ranks[..standard.len()], rank(b, n)).unwrap();
     let w = row_at(images, s * MAX_STANDARD);

@@ -47,8 +47,11 @@ inside c = omega (arith, (place c).within, rows-length c.args.n c.args.standard.
 pub returns-in_default : goal.returns-in_default
 returns-in_default c = image-one c.args.field.prime.prime.above_one (first-none (c.first_variable.ensures.none c.in_default.is)) c.one_row.ensures
 
+pub prove-unreachable-requires : goal.prove-unreachable-requires
+prove-unreachable-requires c = omega (arith, (first (goal.at.prove-unreachable-requires c).In-Some).within)
+
 pub over_variable-b-requires : goal.over_variable-b-requires
-over_variable-b-requires c = let f = first c in (c.requires.variables, f.within, f.found)
+over_variable-b-requires c = let f = first (goal.at.over_variable-b-requires c).In-Some in (f.within, f.found)
 
 pub overflow_mul-s : goal.overflow_mul-s
 overflow_mul-s c = omega (arith, inside c, c.requires.standard_few)
@@ -62,7 +65,7 @@ image-below c = subst (Below c.args.field.p) (sym c.row_at-w.ensures) (c.require
 
 pub times_variable-requires : goal.times_variable-requires
 times_variable-requires c = let g = c.requires in
-    (record { size = g.cells_size; below = g.cells_below }, omega (arith, first (goal.at.times_variable-requires c).In-Some, g.variables), g.few, image-below c)
+    (record { size = g.cells_size; below = g.cells_below }, omega (arith, first (goal.at.times_variable-requires c).In-Some), g.few, image-below c)
 
 pub returns : goal.returns
 returns c =
