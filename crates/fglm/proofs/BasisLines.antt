@@ -21,13 +21,13 @@ use Rattle.groebner.specs.MultiplicationRows.{Filled}
 use Rattle.groebner.specs.Next.{RanksOnce}
 use Rattle.groebner.specs.Enumeration.{Enumerates}
 use Rattle.groebner.proofs.RisingLists.{rising-once}
-use Rattle.lines.specs.Bases.{StoredBasis}
+use Rattle.lines.specs.declared.StoredBasis.{StoredBasis}
 use Rattle.staircase.specs.StoredLines as read
 use Rattle.staircase.specs.Listed.{listed, ListsIrreducibles}
 use Rattle.multiplication.specs.Rows.{AllBelow, cell_of, Tables}
 use Rattle.fglm.specs.Found.{found_lines, found_standard, Printable}
 use Rattle.fglm.specs.Enumerable.{Enumerable, EnumerationInput, Enumerated}
-use Rattle.fglm.specs.Lex.{LexBasis}
+use Rattle.fglm.specs.declared.lex_basis.LexBasis.{LexBasis}
 
 module _ (b : StoredBasis) (t : Reciprocals) (same : t.field.p ≡ b.p) (s : List ℕ) (l : List Monomial) (tables : Tables) where
   abbrev n : ℕ

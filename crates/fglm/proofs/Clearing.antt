@@ -53,4 +53,3 @@ module _ {p : ℕ} {q : Reduced} {s₀ : Rows} where
       within = omega arith;
       rows = stored_same _ _ _ _ i clearing.rows (subst (λ x. ClearedRow p q x (row_at s i)) clearing-row e);
     }
-

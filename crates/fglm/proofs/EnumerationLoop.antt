@@ -1,5 +1,5 @@
 -- The loop of `enumerate`.
---   Kept                                               the parts of the state are within their arrays, and their entries are below p
+--   Kept                                               the parts of the state have their sizes, and their entries are below p
 --   Enumerating                                        what holds at the loop's head
 --   VisitedOnce                                        what holds after a visit
 --   enumerating-start, enumerating-stop
@@ -8,16 +8,16 @@
 --   rows-room                                          where it has a pivot, there is room for its row
 --   after-standard, after_line                         the two outcomes of a visit
 --   onward                                             the next monomial
-use mathlib.Core.Path.{◌≡◌, sym, ◌∙◌, ap, ap₂, subst}
+use mathlib.Core.Path.{◌≡◌, sym, ◌∙◌, ap, subst}
 use mathlib.Core.List.{List, [], ◌∷◌, ◌++◌}
 use mathlib.Core.Logic.{by_cases}
 use Prim.Native.Nat.{ℕ, suc, ◌+◌, ◌*◌, ◌≤◌, ◌<◌}
 use native.Mathlib.Nat.{mul-le-mul_left}
 use native.Mathlib.Decide.{dec_lt}
 use native.Mathlib.Omega.{arith}
-use lib.ListN.{length, take, set, length-set}
+use lib.ListN.{length, length-append, length-set}
 use Rattle.std.specs.Prelude.{Option, Some, None, option_map, IfSome}
-use lib.Seq.{take-suc-set}
+use Rattle.arrayvec.specs.ArrayVec.{ArrayVec}
 use Rattle.lists.specs.Lists.{Each}
 use Rattle.lists.proofs.EachElement.{each_last}
 use Rattle.residue.specs.Prime.{Prime}
@@ -35,14 +35,11 @@ use Rattle.groebner.proofs.Coordinates.{sequences}
 use Rattle.groebner.proofs.Seen.{Seen}
 use Rattle.groebner.proofs.Successors.{UpTo}
 use Rattle.lines.specs.Sizes.{most_standard, most_lines}
-use Rattle.lines.specs.Stored.{Arrays, Hold, lines_in}
 use Rattle.lines.specs.Bases.{Padded}
-use Rattle.lines.specs.declared.line.Generator.{Generator}
-use Rattle.lines.proofs.Lines.{lines-length}
+use Rattle.lines.specs.declared.line.LineTerm.{LineTerm}
 use Rattle.staircase.specs.Leads.{rows_of, lead_monomials, multiple, FoundNext}
 use Rattle.staircase.specs.Listed.{listed}
 use Rattle.staircase.proofs.PaddedRows.{held-row, padded, one-held}
-use Rattle.staircase.proofs.RowsInTurn.{rows-push}
 use Rattle.coordinates.specs.Vectors.{Below, FullLength, FirstPlace}
 use Rattle.coordinates.specs.Rows.{RowPut}
 use Rattle.coordinates.specs.declared.Coordinates.{Coordinates}
@@ -55,9 +52,10 @@ use Rattle.fglm.specs.ImageRows.{most_images, image_at, DivisorsFound, ImageRow}
 use Rattle.fglm.specs.WrittenLines.{WrittenLine}
 use Rattle.fglm.specs.Found.{found_lines, found_standard, PrintableLine}
 use Rattle.fglm.specs.Enumerable.{Enumerable, EnumerationInput, Enumerated}
+use Rattle.fglm.specs.declared.elimination.AugmentedVector.{AugmentedVector}
 use Rattle.fglm.specs.declared.elimination.Reduced.{Reduced}
-use Rattle.fglm.specs.declared.elimination.Residual.{Residual}
 use Rattle.fglm.specs.declared.elimination.Rows.{Rows}
+use Rattle.fglm.specs.declared.lex_basis.LexBasis.{LexBasis}
 use Rattle.fglm.proofs.Adding.{answer-left, answer-dependent, rows-inserted, answer-inserted}
 use Rattle.fglm.proofs.Promise.{enough-room, sound_none}
 use Rattle.fglm.proofs.PushedMonomials.{pushed-count}
@@ -65,11 +63,11 @@ use Rattle.fglm.proofs.StandardRanks.{StandardRanked, ranked-none, ranked-more}
 use Rattle.fglm.proofs.Visits.{Setting, L, Stage, Progressed, progressed-none, to-visit-found, visit-exponents, visit-few, visit-lines}
 use Rattle.fglm.proofs.Visits.{visit-image, visit-line, visit-standard, visit-onward, visits-end}
 
--- The parts of the state are within their arrays.
-pub record Kept (p n : ℕ) (ts cs es : List ℕ) (rs : Rows) (images ranks : List ℕ) (standard ls : List Monomial) : Type 0 where
-  pub arrays : Arrays ts cs es
+-- The parts of the state have their sizes.
+pub record Kept (p n : ℕ) (rs : Rows) (images ranks : List ℕ) (gs : List (ArrayVec LineTerm)) (standard ls : List Monomial) : Type 0 where
   pub lines : length ls ≤ most_lines
-  pub printable : Each (PrintableLine p n) (take (length ls) (lines_in ts cs es))
+  pub line_count : length gs ≡ length ls
+  pub printable : Each (λ (g : ArrayVec LineTerm). PrintableLine p n g.items) gs
   pub sound : SoundRows p rs
   pub rows_size : length rs.rows ≡ most_standard
   pub used : rs.used ≡ length standard
@@ -80,23 +78,22 @@ pub record Kept (p n : ℕ) (ts cs es : List ℕ) (rs : Rows) (images ranks : Li
 
 module _ (t : Reciprocals) (n : ℕ) (s : List ℕ) (l : List Monomial) (tables : Tables) where
   -- The state stands for lines of the theory, and r is to be visited next, if there is one.
-  pub record Enumerating (ts cs es : List ℕ) (rs : Rows) (images ranks : List ℕ) (standard ls : List Monomial) (r : Option Monomial) : Type 0 where
+  pub record Enumerating (rs : Rows) (images ranks : List ℕ) (gs : List (ArrayVec LineTerm)) (standard ls : List Monomial) (r : Option Monomial) : Type 0 where
     pub given : EnumerationInput t n s l tables
     pub size : length (listed n l) ≡ length l
-    pub kept : Kept t.field.p n ts cs es rs images ranks standard ls
+    pub kept : Kept t.field.p n rs images ranks gs standard ls
     pub held : IfSome r (Padded n)
     pub stage : (𝓢 : Setting t n s l tables)
-        → (H : List (Line (ZMod t.field.p) (Row n))) × Progressed 𝓢 rs images standard ls (lines_in ts cs es) H
-        × Stage 𝓢 H (listed n standard) (option_map (row n) r)
+        → (H : List (Line (ZMod t.field.p) (Row n))) × Progressed 𝓢 rs images standard ls gs H × Stage 𝓢 H (listed n standard) (option_map (row n) r)
 
   -- m is visited, after as many others as are counted.
-  pub record VisitedOnce (before : ℕ) (ts cs es : List ℕ) (rs : Rows) (images ranks : List ℕ) (standard ls : List Monomial) (m : Monomial) : Type 0 where
+  pub record VisitedOnce (before : ℕ) (rs : Rows) (images ranks : List ℕ) (gs : List (ArrayVec LineTerm)) (standard ls : List Monomial) (m : Monomial) : Type 0 where
     pub given : EnumerationInput t n s l tables
     pub size : length (listed n l) ≡ length l
-    pub kept : Kept t.field.p n ts cs es rs images ranks standard ls
+    pub kept : Kept t.field.p n rs images ranks gs standard ls
     pub count : length ls + length standard ≡ suc before
     pub seen : (𝓢 : Setting t n s l tables)
-        → (H : List (Line (ZMod t.field.p) (Row n))) × Progressed 𝓢 rs images standard ls (lines_in ts cs es) H
+        → (H : List (Line (ZMod t.field.p) (Row n))) × Progressed 𝓢 rs images standard ls gs H
         × Seen n (sequences (residue-field t.field.p 𝓢.prime).ring) (L 𝓢) (Lex n s) (UpTo (Lex n s) (row n m)) H (listed n standard)
 
 module _ {t : Reciprocals} {n : ℕ} {s : List ℕ} {l : List Monomial} {tables : Tables} where
@@ -104,15 +101,15 @@ module _ {t : Reciprocals} {n : ℕ} {s : List ℕ} {l : List Monomial} {tables 
     setting : (prime : Prime t.field.p) (G : List (Line (ZMod t.field.p) (Row n))) → Enumerable t.field.p prime n l tables G → Setting t n s l tables
     setting prime G en = record { prime = prime; ranking = given.ranking; lines = G; enumerable = en; size = size }
 
-    pub enumerating-start : {ts cs es : List ℕ} {rs : Rows} {images : List ℕ} {m : Monomial}
-        → Arrays ts cs es → rs.used ≡ 0 → length rs.rows ≡ most_standard → length images ≡ most_images
-        → m ≡ monomial most_variables (one most_variables) → Enumerating t n s l tables ts cs es rs images [] [] [] (Some m)
-    enumerating-start {ts} {cs} {es} {rs} {images} {m} a e r i q = record {
+    pub enumerating-start : {rs : Rows} {images : List ℕ} {m : Monomial}
+        → rs.used ≡ 0 → length rs.rows ≡ most_standard → length images ≡ most_images
+        → m ≡ monomial most_variables (one most_variables) → Enumerating t n s l tables rs images [] [] [] [] (Some m)
+    enumerating-start {rs} {images} {m} e r i q = record {
       given = given;
       size = size;
       kept = record {
-        arrays = a;
         lines = omega arith;
+        line_count = omega arith;
         printable = tt;
         sound = sound_none t.field.p rs e;
         rows_size = r;
@@ -123,15 +120,15 @@ module _ {t : Reciprocals} {n : ℕ} {s : List ℕ} {l : List Monomial} {tables 
         standard_held = tt;
       };
       held = padded n (one n) (q ∙ one-held n given.variables.most);
-      stage = λ 𝓢. let w = progressed-none 𝓢 rs images (lines_in ts cs es) e in
+      stage = λ 𝓢. let w = progressed-none 𝓢 rs images e in
           ([], w.0, subst (λ x. Stage 𝓢 [] (listed n []) (Some x)) (sym (held-row n (one n) (q ∙ one-held n given.variables.most))) w.1);
     }
 
-  module _ {ts cs es : List ℕ} {rs : Rows} {images ranks : List ℕ} {standard ls : List Monomial} where
-    pub standard-fits : {r : Option Monomial} → Enumerating t n s l tables ts cs es rs images ranks standard ls r → length standard ≤ most_standard
+  module _ {rs : Rows} {images ranks : List ℕ} {gs : List (ArrayVec LineTerm)} {standard ls : List Monomial} where
+    pub standard-fits : {r : Option Monomial} → Enumerating t n s l tables rs images ranks gs standard ls r → length standard ≤ most_standard
     standard-fits e = omega (arith, e.kept.used, e.kept.sound.size)
 
-    module _ {m : Monomial} (e : Enumerating t n s l tables ts cs es rs images ranks standard ls (Some m)) where
+    module _ {m : Monomial} (e : Enumerating t n s l tables rs images ranks gs standard ls (Some m)) where
       -- The lines that are given, and their prime.
       first : Setting t n s l tables
       first = let prime = t.field.prime.prime in let (G, en) = e.given.lines prime in setting e.given e.size prime G en
@@ -153,8 +150,8 @@ module _ {t : Reciprocals} {n : ℕ} {s : List ℕ} {l : List Monomial} {tables 
           omega (arith, visit-lines first q v e.given.variables.some (standard-fits e), e.given.variables.most)
 
       module _ {w : Coordinates} (whole : FullLength w) (i : ImageRow t.field.p n m images standard tables l w) where
-        module _ {x : Residual} (left : LeftOf t.field.p rs w x) where
-          module _ {k : ℕ} (pivot : FirstPlace x.row (Some k)) where
+        module _ {x : AugmentedVector} (left : LeftOf t.field.p rs w x) where
+          module _ {k : ℕ} (pivot : FirstPlace x.vector (Some k)) where
             pub rows-room : rs.used < most_standard
             unfolding first setting
             rows-room = let prime = t.field.prime.prime in let (H, q, v) = e.stage first in
@@ -166,13 +163,13 @@ module _ {t : Reciprocals} {n : ℕ} {s : List ℕ} {l : List Monomial} {tables 
 
             pub after-standard : {q : Reduced} → Scaled t x k q → {rs' : Rows} → Inserted t.field.p q rs rs'
                 → {images' : List ℕ} → RowPut images (length standard * most_standard) w images' → {u : ℕ} → (u ≡ rank_of n (row n m)) × Short n (row n m)
-                → VisitedOnce t n s l tables (length ls + length standard) ts cs es rs' images' (ranks ++ (u ∷ [])) (standard ++ (m ∷ [])) ls m
+                → VisitedOnce t n s l tables (length ls + length standard) rs' images' (ranks ++ (u ∷ [])) gs (standard ++ (m ∷ [])) ls m
             after-standard {q} made {rs'} inserted {images'} stored {u} rank = record {
               given = e.given;
               size = e.size;
               kept = record {
-                arrays = e.kept.arrays;
                 lines = e.kept.lines;
+                line_count = e.kept.line_count;
                 printable = e.kept.printable;
                 sound = rows-inserted t left pivot made inserted e.kept.rows_size e.kept.sound rows-room;
                 rows_size = ap (λ r. length r.rows) inserted.is ∙ length-set inserted.others.rows rs.used q ∙ inserted.cleared.size
@@ -198,16 +195,15 @@ module _ {t : Reciprocals} {n : ℕ} {s : List ℕ} {l : List Monomial} {tables 
                 before : (j : ℕ) → j < length standard → image_at images' j ≡ image_at images j
                 before j u = put-kept stored (omega (arith, standard-room, e.kept.images_size)) (j * most_standard) (omega arith)
 
-          pub after_line : FirstPlace x.row None → {c : Coordinates} → Dependence t.field.p x c → {g : Generator} → WrittenLine t.field.p n m c standard g
-              → {ts' cs' es' : List ℕ} → Hold (set (lines_in ts cs es) (length ls) g) ts' cs' es'
-              → VisitedOnce t n s l tables (length ls + length standard) ts' cs' es' rs images ranks standard (ls ++ (m ∷ [])) m
-          after_line none {c} opposite {g} written {ts'} {cs'} {es'} stored = record {
+          pub after_line : FirstPlace x.vector None → {c : Coordinates} → Dependence t.field.p x c → {g : ArrayVec LineTerm} → WrittenLine t.field.p n m c standard g.items
+              → VisitedOnce t n s l tables (length ls + length standard) rs images ranks (gs ++ (g ∷ [])) standard (ls ++ (m ∷ [])) m
+          after_line none {c} opposite {g} written = record {
             given = e.given;
             size = e.size;
             kept = record {
-              arrays = stored.arrays;
               lines = omega (arith, next-lines, pushed-count ls m);
-              printable = subst (Each (PrintableLine t.field.p n)) (sym taken) (each_last (PrintableLine t.field.p n) (take (length ls) (lines_in ts cs es)) e.kept.printable written.printable);
+              line_count = omega (arith, length-append gs (g ∷ []), pushed-count ls m, e.kept.line_count);
+              printable = each_last _ gs e.kept.printable written.printable;
               sound = e.kept.sound;
               rows_size = e.kept.rows_size;
               used = e.kept.used;
@@ -218,21 +214,11 @@ module _ {t : Reciprocals} {n : ℕ} {s : List ℕ} {l : List Monomial} {tables 
             };
             count = omega (arith, pushed-count ls m);
             seen = λ 𝓢. let (H, q, v) = e.stage 𝓢 in
-                visit-line 𝓢 q m v w (visit-image 𝓢 q whole i).1
-                c (answer-dependent t left none opposite 𝓢.prime) g written (lines_in ts' cs' es') stored.lines room (ls ++ (m ∷ [])) leads-more (pushed-count ls m);
+                visit-line 𝓢 q m v w (visit-image 𝓢 q whole i).1 c (answer-dependent t left none opposite 𝓢.prime) g written;
           }
-            where
-              room : length ls < length (lines_in ts cs es)
-              room = omega (arith, next-lines, lines-length ts cs es)
 
-              taken : take (length (ls ++ (m ∷ []))) (lines_in ts' cs' es') ≡ take (length ls) (lines_in ts cs es) ++ (g ∷ [])
-              taken = ap₂ take (pushed-count ls m) stored.lines ∙ take-suc-set (lines_in ts cs es) (length ls) g room
-
-              leads-more : lead_monomials n (ls ++ (m ∷ [])) ≡ lead_monomials n ls ++ (row n m ∷ [])
-              leads-more = rows-push n ls m
-
-    pub onward : {b : ℕ} {m : Monomial} → VisitedOnce t n s l tables b ts cs es rs images ranks standard ls m → {r : Option Monomial}
-        → FoundNext n s (multiple n (lead_monomials n ls)) (row n m) r → Enumerating t n s l tables ts cs es rs images ranks standard ls r
+    pub onward : {b : ℕ} {m : Monomial} → VisitedOnce t n s l tables b rs images ranks gs standard ls m → {r : Option Monomial}
+        → FoundNext n s (multiple n (lead_monomials n ls)) (row n m) r → Enumerating t n s l tables rs images ranks gs standard ls r
     onward {m = m} v {r} next = record {
       given = v.given;
       size = v.size;
@@ -241,11 +227,11 @@ module _ {t : Reciprocals} {n : ℕ} {s : List ℕ} {l : List Monomial} {tables 
       stage = λ 𝓢. let (H, q, u) = v.seen 𝓢 in (H, q, visit-onward 𝓢 q u (option_map (row n) r) next.is_next);
     }
 
-    pub enumerating-stop : Enumerating t n s l tables ts cs es rs images ranks standard ls None
-        → Enumerated t n s l tables (record { lines = length ls; generators = lines_in ts cs es; standard = standard })
-    unfolding found_lines found_standard rows_of setting
-    enumerating-stop v = record {
-      printable = record { lines = v.kept.lines; each = v.kept.printable; count = standard-fits v; standard = v.kept.standard_held };
-      outcome = λ prime G en. let 𝓢 = setting v.given v.size prime G en in let (H, q, u) = v.stage 𝓢 in
-          visits-end 𝓢 q u;
-    }
+  pub enumerating-stop : {rs : Rows} {images ranks : List ℕ} {ls : List Monomial} {r : LexBasis} → Enumerating t n s l tables rs images ranks r.lines.items r.standard.items ls None
+      → Enumerated t n s l tables r
+  unfolding found_lines found_standard rows_of setting
+  enumerating-stop v = record {
+    printable = record { lines = omega (arith, v.kept.lines, v.kept.line_count); each = v.kept.printable; count = standard-fits v; standard = v.kept.standard_held };
+    outcome = λ prime G en. let 𝓢 = setting v.given v.size prime G en in let (H, q, u) = v.stage 𝓢 in
+        visits-end 𝓢 q u;
+  }

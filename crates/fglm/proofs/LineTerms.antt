@@ -32,7 +32,7 @@ use Rattle.lines.specs.Bases.{Padded}
 use Rattle.lines.specs.declared.line.LineTerm.{LineTerm}
 use Rattle.lines.proofs.AsRow.{as_row-exponents}
 use Rattle.staircase.specs.TermLines.{line_of}
-use Rattle.staircase.specs.Listed.{listed, listed_at}
+use Rattle.staircase.specs.Listed.{listed}
 use Rattle.staircase.proofs.ArrayRows.{no_monomial, rows-length, rows_at}
 use Rattle.coordinates.specs.Vectors.{coordinate, vector, FullLength}
 use Rattle.coordinates.specs.declared.Coordinates.{Coordinates}

@@ -16,13 +16,13 @@ use mathlib.Core.List.Memᴰ
 use mathlib.Core.List.{List, [], ◌∷◌, ◌++◌, map, map-append}
 use mathlib.Core.Logic.{inl, inr, by_cases}
 use mathlib.Core.Option.{Option, none, some}
-use Prim.Native.Nat.{ℕ, suc, ◌+◌, ◌*◌, ◌≤◌, ◌<◌}
+use Prim.Native.Nat.{ℕ, ◌+◌, ◌*◌, ◌≤◌, ◌<◌}
 use native.Mathlib.Decide.{dec_lt}
 use native.Mathlib.Omega.{arith}
-use lib.ListN.{length, take, set, length-append}
+use lib.ListN.{length, length-append}
 use Rattle.std.specs.Prelude as answer
 use Rattle.std.specs.Prelude.{Some, None}
-use lib.Seq.{take-suc-set}
+use Rattle.arrayvec.specs.ArrayVec.{ArrayVec}
 use Rattle.residue.specs.Prime.{Prime}
 use Rattle.residue.specs.Field.{ZMod, modulo}
 use Rattle.residue.specs.RingLaws.{Field}
@@ -60,8 +60,8 @@ use Rattle.groebner.proofs.Variables.{variable-above}
 use Rattle.groebner.proofs.OrderedTails.{in_order}
 use Rattle.groebner.proofs.EnumerationOutcome.{seen-outcome}
 use Rattle.lines.specs.Sizes.{most_standard}
-use Rattle.lines.specs.LineTerms.{terms_in}
-use Rattle.lines.specs.declared.line.Generator.{Generator}
+use Rattle.lines.specs.LineTerms.{terms_in, terms_of_lines}
+use Rattle.lines.specs.declared.line.LineTerm.{LineTerm}
 use Rattle.staircase.specs.TermLines.{line_of, lines_of}
 use Rattle.staircase.specs.Leads.{rows_of, lead_monomials, multiple, NextIs}
 use Rattle.staircase.specs.Listed.{listed, listed_at}
@@ -77,6 +77,7 @@ use Rattle.fglm.specs.declared.elimination.Rows.{Rows}
 use Rattle.fglm.proofs.Images.{Image, EchelonOf, Answers}
 use Rattle.fglm.proofs.Adding.{answer}
 use Rattle.fglm.proofs.NormalImages.{NormalState, image-normal, normal-image}
+use Rattle.staircase.proofs.RowsInTurn.{rows-push}
 use Rattle.fglm.proofs.PushedMonomials.{pushed-count, pushed-listed, pushed-before, pushed-last}
 use Rattle.fglm.proofs.Promise.{state-none, no-rows-yet, answers}
 use Rattle.fglm.proofs.WrittenMore.{written-append, written-more, multiple-reducible}
@@ -133,16 +134,16 @@ module _ {t : Reciprocals} {n : ℕ} {s : List ℕ} {l : List Monomial} {tables 
   Stage H B None = AllSeen n 𝓥 L lt H B
 
   -- The state stands for lines H and the standard monomials.
-  pub record Progressed (rs : Rows) (images : List ℕ) (standard ls : List Monomial) (gs : List Generator) (H : List (Line F (Row n))) : Type 0 where
+  pub record Progressed (rs : Rows) (images : List ℕ) (standard ls : List Monomial) (gs : List (ArrayVec LineTerm)) (H : List (Line F (Row n))) : Type 0 where
     pub echelon : EchelonOf p h field L (state_of p h rs) (listed n standard)
     pub used : rs.used ≡ length (listed n standard)
     pub count : length (listed n standard) ≡ length standard
     pub normal : (k : ℕ) → k < length standard → NormalAt (listed_at n standard k) (image_at images k)
     pub leads : lead_monomials n ls ≡ leads H
     pub lead_count : length H ≡ length ls
-    pub lines : lines_of p h n (map (terms_in n) (take (length ls) gs)) ≡ in_order field (monomials n) (listed n standard) H
+    pub lines : lines_of p h n (terms_of_lines n gs) ≡ in_order field (monomials n) (listed n standard) H
 
-  module _ {rs : Rows} {images : List ℕ} {standard ls : List Monomial} {gs : List Generator} {H : List (Line F (Row n))} (q : Progressed rs images standard ls gs H) where
+  module _ {rs : Rows} {images : List ℕ} {standard ls : List Monomial} {gs : List (ArrayVec LineTerm)} {H : List (Line F (Row n))} (q : Progressed rs images standard ls gs H) where
     abbrev B : List (Row n)
     B = listed n standard
 
@@ -171,25 +172,21 @@ module _ {t : Reciprocals} {n : ℕ} {s : List ℕ} {l : List Monomial} {tables 
         (e, normal-image p h n (ground p prime n) (grevlex-order n) G en.low l size (row n m) w whole e i.zeros)
 
     module _ (m : Monomial) (v : Stage H B (Some (row n m))) (w : Coordinates) (image : Image p h L w (row n m)) where
-      pub visit-line : (c : Coordinates) → answer t prime rs w ≡ inl (vectors.vector p h c) → (g : Generator) → WrittenLine p n m c standard g
-          → (gs' : List Generator) → gs' ≡ set gs (length ls) g → length ls < length gs
-          → (ls' : List Monomial) → lead_monomials n ls' ≡ lead_monomials n ls ++ (row n m ∷ []) → length ls' ≡ suc (length ls)
-          → (H' : List (Line F (Row n))) × Progressed rs images standard ls' gs' H' × Seen n 𝓥 L lt (UpTo lt (row n m)) H' B
-      unfolding lines_of
-      visit-line c answered g in_order gs' stored room ls' more count = (
+      pub visit-line : (c : Coordinates) → answer t prime rs w ≡ inl (vectors.vector p h c) → (g : ArrayVec LineTerm) → WrittenLine p n m c standard g.items
+          → (H' : List (Line F (Row n))) × Progressed rs images standard (ls ++ (m ∷ [])) (gs ++ (g ∷ [])) H' × Seen n 𝓥 L lt (UpTo lt (row n m)) H' B
+      unfolding lines_of terms_of_lines
+      visit-line c answered g written = (
         H ++ (new ∷ []),
         record {
           echelon = q.echelon;
           used = q.used;
           count = q.count;
           normal = q.normal;
-          leads = more ∙ ap (◌++ (row n m ∷ [])) q.leads ∙ sym (leads-append H new);
-          lead_count = omega (arith, length-append H (new ∷ []), q.lead_count, count);
-          lines = ap₂ (λ k l. map (line_of p h n) (map (terms_in n) (take k l))) count stored
-              ∙ ap (λ l. map (line_of p h n) (map (terms_in n) l)) (take-suc-set gs (length ls) g room)
-              ∙ ap (map (line_of p h n)) (map-append (terms_in n) (take (length ls) gs) (g ∷ []))
-              ∙ map-append (line_of p h n) (map (terms_in n) (take (length ls) gs)) (terms_in n g ∷ [])
-              ∙ ap₂ (λ G x. G ++ (x ∷ [])) q.lines (in_order.line h field (rising-once ord B v.0.rising_standard))
+          leads = rows-push n ls m ∙ ap (◌++ (row n m ∷ [])) q.leads ∙ sym (leads-append H new);
+          lead_count = omega (arith, length-append H (new ∷ []), q.lead_count, pushed-count ls m);
+          lines = ap (map (line_of p h n)) (map-append (λ (k : ArrayVec LineTerm). terms_in n k.items) gs (g ∷ []))
+              ∙ map-append (line_of p h n) (terms_of_lines n gs) (terms_in n g.items ∷ [])
+              ∙ ap₂ (λ G x. G ++ (x ∷ [])) q.lines (written.line h field (rising-once ord B v.0.rising_standard))
               ∙ sym (written-append field (monomials n) B H new);
         },
         seen-line n 𝓥 L lt (row n m) H B v.0 (divisors v) _ told.0 told.1,
@@ -237,16 +234,16 @@ module _ {t : Reciprocals} {n : ℕ} {s : List ℕ} {l : List Monomial} {tables 
     visit-onward {m} v (Some r) e = let c = successor m (some r) e in (seen-onward n 𝓥 L ord m H B v (some r) c, (irreducible-iff n H r).0 c.1)
     visit-onward {m} v None e = seen-onward n 𝓥 L ord m H B v none (successor m none e)
 
-    pub visits-end : AllSeen n 𝓥 L lt H B → Enumerates (modulo p h) n (Grevlex n) lt G (length l) (lines_of p h n (map (terms_in n) (take (length ls) gs))) B
+    pub visits-end : AllSeen n 𝓥 L lt H B → Enumerates (modulo p h) n (Grevlex n) lt G (length l) (lines_of p h n (terms_of_lines n gs)) B
     unfolding L ground
-    visits-end v = subst (λ d. Enumerates (modulo p h) n (Grevlex n) lt G d (lines_of p h n (map (terms_in n) (take (length ls) gs))) B) size
+    visits-end v = subst (λ d. Enumerates (modulo p h) n (Grevlex n) lt G d (lines_of p h n (terms_of_lines n gs)) B) size
         (subst (λ K. Enumerates (modulo p h) n (Grevlex n) lt G (length (listed n l)) K B) (sym q.lines)
         (seen-outcome n (ground p prime n) (grevlex-order n) ord (next n s) (next-lex n s ranking) G en.low en.groebner (listed n l) en.lists H B v))
 
   -- At first nothing is found.
-  pub progressed-none : (rs : Rows) (images : List ℕ) (gs : List Generator) → rs.used ≡ 0 → Progressed rs images [] [] gs [] × Stage [] (listed n []) (Some (one n))
-  unfolding rows_of lines_of in_order monomials
-  progressed-none rs images gs e = (
+  pub progressed-none : (rs : Rows) (images : List ℕ) → rs.used ≡ 0 → Progressed rs images [] [] [] [] × Stage [] (listed n []) (Some (one n))
+  unfolding rows_of lines_of terms_of_lines in_order monomials
+  progressed-none rs images e = (
     record {
       echelon = subst (λ r. EchelonOf p h field L r []) (sym (state-none p h rs e)) (no-rows-yet p h field L);
       used = e;

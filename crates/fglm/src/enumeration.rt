@@ -38,10 +38,20 @@ pub fn enumerate(
     let mut leads = Leads::new();
     let mut m = Some(Monomial::one());
     while let Some(v) = m {
-        let w = image_of(cells, &images, &ranks, v, &lex.standard, irreducibles, field, n);
+        let w = image_of(
+            cells,
+            &images,
+            &ranks,
+            v,
+            &lex.standard,
+            irreducibles,
+            field,
+            n,
+        );
         let x = rows.residual(w, field);
         let Some(pivot) = x.found() else {
-            lex.lines.push(line_of(v, x.dependence(field), &lex.standard, field.p, n));
+            lex.lines
+                .push(line_of(v, x.dependence(field), &lex.standard, field.p, n));
             leads.push(v);
             m = next(&leads, v, ranking, n);
             continue;

@@ -34,4 +34,3 @@ loop-i-preserved c =
           clearing-is w.self-is
           (clearing-skip c.loop-i.invariant c.loop-i-test.true (cleared-none c.args.field.prime.prime.above_one q (sound (goal.at.loop-i-preserved c).In-loop-i) w.if-c-ne0.false))
     ]
-
