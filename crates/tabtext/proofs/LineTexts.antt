@@ -1,5 +1,6 @@
 -- The bytes of a line with its LF, by its kind.
---   header-text, generator-text, standard-text, points-text, end-text
+--   fields-text                                                         a word and fields after it
+--   header-text, generator-text, standard-text, points-text, end-text   the five kinds
 use Prim.Native.Nat.{ℕ}
 use mathlib.Core.Path.{◌≡◌, ap, ◌∙◌}
 use mathlib.Core.List.{List, [], ◌∷◌, ◌++◌, append_assoc, map}
@@ -9,7 +10,7 @@ use Rattle.tabtext.specs.Text.{bytes, header, generator, standard, points, end, 
 use Rattle.tabtext.proofs.Parted.{each_after, part-after}
 
 -- A word and fields after it.
-fields-text : (w : Bytes) (fs : List Bytes) (rest : Bytes) → part 9 (w ∷ fs) ++ (10 ∷ rest) ≡ w ++ (each_after 9 fs ++ (10 ∷ rest))
+pub fields-text : (w : Bytes) (fs : List Bytes) (rest : Bytes) → part 9 (w ∷ fs) ++ (10 ∷ rest) ≡ w ++ (each_after 9 fs ++ (10 ∷ rest))
 fields-text w fs rest = ap (λ x. x ++ (10 ∷ rest)) (part-after 9 w fs) ∙ append_assoc w (each_after 9 fs) (10 ∷ rest)
 
 -- A word and a number.

@@ -7,6 +7,9 @@
 --   exponents-none      a row without exponents
 --   exponents-after     a row of exponents
 --   term-parts          a term: its coefficient, a colon and its exponents
+--   fields-after        a word and the fields of elements
+--   generator-fields    the line of a basis is such a line
+--   standard-fields     so is the line of monomials
 --   generator-after     a poly line
 --   standard-after      a stairs line
 --   header-after        a basis line
@@ -15,16 +18,19 @@
 --   end-counted         an end line
 use Prim.Native.Nat.{ℕ, ◌+◌, ◌≤◌, ◌<◌}
 use mathlib.Core.Path.{◌≡◌, refl, ap, ◌∙◌}
-use mathlib.Core.List.{List, [], ◌∷◌, ◌++◌, map, append_assoc, append-nil}
+use mathlib.Core.List.{List, [], ◌∷◌, ◌++◌, map, map-map, append_assoc, append-nil}
 use native.Mathlib.Numerals.{add-one}
 use lib.ListN.{length, get_or, drop, drop_of_length-le}
 use lib.Seq.{drop-cons}
 use Rattle.lists.specs.Lists.{Bytes}
 use Rattle.lines.specs.Terms.{Term}
-use Rattle.tabtext.specs.Text.{bytes, header, generator, standard, points, end, decimal, dotted, term}
-use Rattle.tabtext.specs.Printed.{printed, count_line}
+use Rattle.lines.specs.LineTerms.{exponents_of, term_of, terms_in}
+use Rattle.lines.specs.declared.line.LineTerm.{LineTerm}
+use Rattle.monomial.specs.declared.Monomial.{Monomial}
+use Rattle.tabtext.specs.Text.{bytes, header, generator, standard, points, end, decimal, part, dotted, term, fields, line}
+use Rattle.tabtext.specs.Printed.{printed, generator_line, standard_line, count_line, fields_line}
 use Rattle.tabtext.proofs.Parted.{each_after, part-after}
-use Rattle.tabtext.proofs.LineTexts.{header-text, generator-text, standard-text}
+use Rattle.tabtext.proofs.LineTexts.{fields-text, header-text, generator-text, standard-text}
 
 -- x stands at place j of the list.
 abbrev pub StandsAt : {A : Type 0} → List A → ℕ → A → Type 0
@@ -57,6 +63,18 @@ exponents-after e x s = ap dotted s ∙ part-after 46 (decimal x) (map decimal (
 pub term-parts : (c : ℕ) (e : List ℕ) → term (c, e) ≡ decimal c ++ (58 ∷ dotted e)
 unfolding term
 term-parts c e = refl
+
+pub fields-after : {A : Type 0} (show : A → Bytes) (w : Bytes) (l : List A) → fields_line show w l ≡ w ++ fields_from show 9 l (10 ∷ []) 0
+unfolding fields_line
+fields-after show w l = fields-text w (map show l) []
+
+pub generator-fields : (n : ℕ) (g : List LineTerm) → printed (generator_line n g) ≡ fields_line (λ t. term (t.coefficient.0, exponents_of n t.monomial)) (bytes "poly") g
+unfolding generator_line printed line fields terms_in term_of fields_line
+generator-fields n g = ap (λ fs. part 9 (bytes "poly" ∷ fs) ++ (10 ∷ [])) (map-map term (term_of n) g)
+
+pub standard-fields : (n : ℕ) (ms : List Monomial) → printed (standard_line n ms) ≡ fields_line (λ m. dotted (exponents_of n m)) (bytes "stairs") ms
+unfolding standard_line printed line fields fields_line
+standard-fields n ms = ap (λ fs. part 9 (bytes "stairs" ∷ fs) ++ (10 ∷ [])) (map-map dotted (exponents_of n) ms)
 
 pub generator-after : (ts : List Term) → printed (generator ts) ≡ bytes "poly" ++ fields_from term 9 ts (10 ∷ []) 0
 unfolding printed

@@ -6,6 +6,7 @@
 --   standard-width                                  a stairs line
 --   header-width                                    a basis line
 --   counted-width                                   a runs line or an end line
+--   fields-most                                     a word and fields of fewer than k bytes each
 --   row-width-5                                     a row of at most 4 exponents, each of fewer than 6 bytes, has at most 24
 --   generator-most, standard-most                   a poly line, a stairs line of fields of fewer than k bytes each
 --   SmallExponents e, SmallRow e                    exponents of at most 32; at most 4 of them
@@ -27,10 +28,10 @@ use Rattle.monomial.specs.Sizes.{most_variables, most_exponent}
 use Rattle.lines.specs.Sizes.{most_standard, most_terms}
 use Rattle.lines.specs.Terms.{Term}
 use Rattle.tabtext.specs.Text.{Number, bytes, header, generator, standard, decimal, dotted, term}
-use Rattle.tabtext.specs.Printed.{printed, count_line}
+use Rattle.tabtext.specs.Printed.{printed, count_line, fields_line}
 use Rattle.tabtext.proofs.Decimal.{width-1, width-2, width-3, width-4, width-5}
 use Rattle.tabtext.proofs.Parted.{each_after}
-use Rattle.tabtext.proofs.Separators.{StandsAt, exponents-none, exponents-after, term-parts, generator-after, standard-after, header-after}
+use Rattle.tabtext.proofs.Separators.{StandsAt, exponents-none, exponents-after, term-parts, fields-after, generator-after, standard-after, header-after}
 
 pub number-width-2 : (v : ℕ) → v < 100 → length (decimal v) ≤ 2
 number-width-2 v h = elim (dec_lt v 10) [ yes a ↦ omega (arith, width-1 v a) | no a ↦ omega (arith, width-2 v (omega arith) h) ]
@@ -93,6 +94,11 @@ row-most k (v ∷ e) h = rw (mul-suc k (length e)) (omega (arith, row-width (v �
 
 pub row-width-5 : (n : ℕ) (e : List ℕ) → length e ≡ n → n ≤ most_variables → Each (λ v. length (decimal v) < 6) e → length (dotted e) ≤ 24
 row-width-5 n e a b h = omega (arith, row-most 6 e h)
+
+pub fields-most : {A : Type 0} (show : A → Bytes) (w : Bytes) (k : ℕ) (l : List A) → Each (λ x. length (show x) < k) l →
+    length (fields_line show w l) ≤ length w + k * length l + 1
+fields-most show w k l h =
+    omega (arith, ap length (fields-after show w l), line-width w (each_after 9 (map show l)), after-width-most show 9 k l h)
 
 pub generator-most : (k : ℕ) (ts : List Term) → Each (λ t. length (term t) < k) ts → length (printed (generator ts)) ≤ 5 + k * length ts
 generator-most k ts h = omega (arith, generator-width ts, after-width-most term 9 k ts h)

@@ -16,7 +16,7 @@ ghost use Rattle.monomial.specs.Sizes.{most_variables, VariableCount};
 ghost use Rattle.lines.specs.Sizes.{most_terms};
 ghost use Rattle.lines.specs.LineTerms.{exponents_of};
 ghost use Rattle.tabtext.specs.Text.{Number, header, decimal, dotted, term};
-ghost use Rattle.tabtext.specs.Printed.{generator_line, standard_line, printed, count_line};
+ghost use Rattle.tabtext.specs.Printed.{generator_line, standard_line, printed, count_line, fields_line, Shown, PrintsFields};
 
 use crate::sink::Sink;
 use lines::line::LineTerm;
@@ -62,17 +62,34 @@ pub fn print_term<S: Sink>(sink: &mut S, c: Residue, m: Monomial, n: Variables)
     print_exponents(&mut *sink, m, n);
 }
 
+// A word, a tab and the field of each element, and LF.
+fn print_fields<S: Sink, T, F: Fn(&mut S, &T)>(sink: &mut S, word: &[u8], items: &[T], field: F)
+    requires { (f : Shown T) × PrintsFields S.takes S.after (λ s x. F.pre field s x) (λ s x r. F.post field s x tt r) f sink.old word.now items.now }
+    ensures { (f : Shown T) → PrintsFields S.takes S.after (λ s x. F.pre field s x) (λ s x r. F.post field s x tt r) f sink.old word.now items.now
+        → let line = fields_line f.bytes word.now items.now in
+        (sink.new ≡ S.after sink.old line) × (length line ≤ length word.now + (f.most + 1) * length items.now + 1) }
+{
+    sink.put_bytes(word);
+    for x in items {
+        sink.put(b'\t');
+        field(&mut *sink, x);
+    }
+    sink.put(b'\n');
+}
+
 pub fn print_generator<S: Sink>(sink: &mut S, g: &[LineTerm], n: Variables)
     requires { (length g.now ≤ most_terms) × VariableCount n × S.takes sink.old (length (printed (generator_line n g.now))) }
     ensures printed { sink.new ≡ S.after sink.old (printed (generator_line n g.now)) }
     ensures short { length (printed (generator_line n g.now)) ≤ 5 + 31 * most_terms }
 {
-    sink.put_bytes(b"poly");
-    for t in g {
-        sink.put(b'\t');
-        print_term(&mut *sink, t.coefficient, t.monomial, n);
-    }
-    sink.put(b'\n');
+    let field = |s: &mut S, t: &LineTerm|
+        requires { VariableCount n × S.takes s.old (length (term (t.now.coefficient.0, exponents_of n t.now.monomial))) }
+        ensures printed { s.new ≡ S.after s.old (term (t.now.coefficient.0, exponents_of n t.now.monomial)) }
+        ensures short { length (term (t.now.coefficient.0, exponents_of n t.now.monomial)) ≤ 30 }
+    {
+        print_term(s, t.coefficient, t.monomial, n);
+    };
+    print_fields(sink, b"poly", g, field);
 }
 
 pub fn print_standard<S: Sink>(sink: &mut S, monomials: &[Monomial], n: Variables)
@@ -80,12 +97,14 @@ pub fn print_standard<S: Sink>(sink: &mut S, monomials: &[Monomial], n: Variable
     ensures printed { sink.new ≡ S.after sink.old (printed (standard_line n monomials.now)) }
     ensures short { length (printed (standard_line n monomials.now)) ≤ 7 + 25 * length monomials.now }
 {
-    sink.put_bytes(b"stairs");
-    for m in monomials {
-        sink.put(b'\t');
-        print_exponents(&mut *sink, *m, n);
-    }
-    sink.put(b'\n');
+    let field = |s: &mut S, m: &Monomial|
+        requires { VariableCount n × S.takes s.old (length (dotted (exponents_of n m.now))) }
+        ensures printed { s.new ≡ S.after s.old (dotted (exponents_of n m.now)) }
+        ensures short { length (dotted (exponents_of n m.now)) ≤ 24 }
+    {
+        print_exponents(s, *m, n);
+    };
+    print_fields(sink, b"stairs", monomials, field);
 }
 
 pub fn print_header<S: Sink>(sink: &mut S, word: &[u8], p: u16, n: Variables)

@@ -111,7 +111,7 @@ pub fn read_rows(text: &[u8], at: usize, n: Variables) -> Option<usize>
     ensures { NextSays (read_rows n) text.now at result }
 {
     let row = |i|
-            ensures { NextSays (read_row n 9) text.entry.now i result }
+        ensures { NextSays (read_row n 9) text.entry.now i result }
     {
         let (_, next) = read_exponents(text, i, n, b'\t')?;
         Some(next)

@@ -51,7 +51,7 @@ loop-j-init g c =
 -- The exponent that is printed stands at place j.
 here : (g : _) (c : After-exponent_at-in-loop-j g) → StandsAt (exponents_of c.args.n c.args.m) c.loop-j.j c.exponent_at-in-loop-j.result
 here g c =
-    let h = c.loop-j-test.true in
+    let h : c.loop-j.j < c.args.n = omega arith in
     exponent-stands _ _ _ _ (long g (goal.at.After-exponent_at-in-loop-j g c).Start) h (c.exponent_at-in-loop-j.ensures.0 _ h)
 
 pub print_after-requires : goal.print_after-requires

@@ -7,5 +7,5 @@ use Rattle.tabtext.proofs.print.print_exponents.Given as goal
 
 abbrev pub invariant-loop-j : goal.invariant-loop-j
 invariant-loop-j g l =
-    let e = exponents_of l.n l.m in
+    let e = exponents_of l.fn.n l.m in
     PrintingFields g.S.Sink.takes g.S.Sink.after decimal 46 e [] 6 l.fn.sink (dotted e) l.sink l.j

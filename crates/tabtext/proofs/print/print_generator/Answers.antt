@@ -1,96 +1,41 @@
--- `print::print_generator` meets its contract. The loop's invariant: the terms from place j on are left, each with a tab before it, and LF.
-use mathlib.Core.Path.{◌≡◌, refl}
-use mathlib.Core.List.{[], ◌∷◌, ◌++◌}
-use borrow.Author.Rules.{rules}
+-- `print::print_generator` meets its contract. The fields are the terms of the line, each of at most 30 bytes.
+use Prim.Native.Nat.{◌+◌, ◌*◌, ◌≤◌}
+use mathlib.Core.Path.{◌≡◌, subst}
 use native.Mathlib.Omega.{arith}
-use lib.ListN.{length, get_or}
-use Rattle.lists.proofs.Elements.{length-mapped}
-use Rattle.lines.specs.Sizes.{most_terms}
-use Rattle.lines.specs.Terms.{Term}
+use lib.ListN.{length}
 use Rattle.lines.specs.LineTerms.{exponents_of}
+use Rattle.lines.specs.declared.line.LineTerm.{LineTerm}
 use Rattle.tabtext.specs.Text.{bytes, term}
-use Rattle.tabtext.specs.Printed.{generator_line, printed}
-use Rattle.tabtext.proofs.FieldPrinting.{printing-room, printing-turn, printing-last, printing-short}
-use Rattle.tabtext.proofs.Separators.{StandsAt, fields_from, generator-after}
-use Rattle.tabtext.proofs.Values.{terms, terms-printed-length, term-stands}
-use Rattle.tabtext.proofs.Widths.{generator-most}
-use Rattle.tabtext.proofs.Writing.{Left, left-all, left_less, left-none, left-room, put-both}
-use Rattle.tabtext.proofs.print.print_generator.Goals.{After-loop-j, In-loop-j, Start}
+use Rattle.tabtext.specs.Printed.{printed, generator_line, fields_line, Shown}
+use Rattle.tabtext.proofs.Separators.{generator-fields}
+use Rattle.tabtext.proofs.print.print_generator.Goals.{After-print_fields, Start}
 use Rattle.tabtext.proofs.print.print_generator.Goals as goal
 
--- The line is its word, its terms, each with a tab before it, and LF.
-parted : (g : _) (c : Start g) → printed (generator_line c.args.n c.args.g) ≡ bytes "poly" ++ fields_from term 9 (terms c.args.n c.args.g) (10 ∷ []) 0
-unfolding generator_line
-parted g c = generator-after (terms c.args.n c.args.g)
+-- The field of a term.
+abbrev shown : (g : _) → Start g → Shown LineTerm
+shown g c = record { bytes = λ t. term (t.coefficient.0, exponents_of c.args.n t.monomial); most = 30 }
 
--- The number of its terms, from the type of the line.
-long : (g : _) (c : Start g) → length (terms c.args.n c.args.g) ≡ c.args.g.terms
-long g c =
-    let a : length c.args.g.coefficients ≡ most_terms = search (length-mapped, rules) in
-    let b : length c.args.g.monomials ≡ most_terms = search (length-mapped, rules) in
-    terms-printed-length c.args.n c.args.g (omega arith) (omega arith)
+-- Room for the line.
+room : (g : _) (c : Start g) → g.S.Sink.takes c.args.sink.now (length (fields_line (shown g c).bytes (bytes "poly") c.args.g.now))
+room g c = subst (λ l. g.S.Sink.takes c.args.sink.now (length l)) (generator-fields c.args.n c.args.g.now) c.requires.2
 
-pub put_bytes-requires : goal.put_bytes-requires
+pub print_fields-requires : goal.print_fields-requires
 unfolding bytes
-put_bytes-requires g c =
-    let laws = g.met.S.Sink.laws in
-    left-room laws (bytes "poly") _ (parted g (goal.at.put_bytes-requires g c).Start) (left-all laws refl c.requires.2)
+print_fields-requires g c =
+    let s = (goal.at.print_fields-requires g c).Start in
+    (shown g s, record { asks = λ t x r. (c.requires.1, r); puts = λ t x r p. p; room = room g s })
 
-pub loop-j-init : goal.loop-j-init
+said : (g : _) (c : After-print_fields g) →
+    let l = printed (generator_line c.args.n c.args.g.now) in
+    (c.print_fields.new.sink ≡ g.S.Sink.after c.args.sink.now l) × (length l ≤ 5 + 31 * length c.args.g.now)
 unfolding bytes
-loop-j-init g c =
-    let laws = g.met.S.Sink.laws in
-    record { left = left_less laws (bytes "poly") _ (parted g (goal.at.loop-j-init g c).Start) (left-all laws refl c.requires.2) c.put_bytes.ensures; short = tt }
-
--- The term at place j.
-abbrev here : (g : _) → In-loop-j g → Term
-here g c =
-    let s = c.args in
-    let j = c.loop-j.j in
-    ((get_or s.g.coefficients j (record { 0 = 0 })).0, exponents_of s.n (get_or s.g.monomials j (record { e = [] })))
-
-stands : (g : _) (c : In-loop-j g) → StandsAt (terms c.args.n c.args.g) c.loop-j.j (here g c)
-stands g c =
-    let s = c.args in
-    term-stands s.n _ s.g _ _ (omega (arith, long g (goal.at.In-loop-j g c).Start))
-
--- Room for it and its tab.
-room : (g : _) (c : In-loop-j g) → g.S.Sink.takes c.loop-j.sink (length (9 ∷ term (here g c)))
-room g c = printing-room g.met.S.Sink.laws c.loop-j.invariant (here g c) (stands g c)
-
-pub put-requires : goal.put-requires
-put-requires g c =
-    let s = (goal.at.put-requires g c).In-loop-j in
-    let laws = g.met.S.Sink.laws in
-    left-room laws (9 ∷ []) (term (here g s)) refl (left-all laws refl (room g s))
-
-pub print_term-requires : goal.print_term-requires
-print_term-requires g c =
-    let s = (goal.at.print_term-requires g c).In-loop-j in
-    let laws = g.met.S.Sink.laws in
-    (c.requires.1, (left_less laws (9 ∷ []) (term (here g s)) refl (left-all laws refl (room g s)) c.put.ensures).room)
-
-pub loop-j-preserved : goal.loop-j-preserved
-loop-j-preserved g c =
-    let s = (goal.at.loop-j-preserved g c).In-loop-j in
-    let laws = g.met.S.Sink.laws in
-    let p = c.print_term.ensures in
-    printing-turn laws c.loop-j.invariant (here g s) (stands g s) (omega (arith, p.short)) (put-both laws _ _ c.put.ensures p.printed)
-
--- What is left after the terms: LF.
-last : (g : _) (c : After-loop-j g) → Left g.S.Sink.takes g.S.Sink.after c.args.sink.now (printed (generator_line c.args.n c.args.g)) (10 ∷ []) c.loop-j.sink
-last g c = printing-last g.met.S.Sink.laws c.loop-j.invariant (omega (arith, long g (goal.at.After-loop-j g c).Start))
-
-pub put-requires-2 : goal.put-requires-2
-put-requires-2 g c = (last g (goal.at.put-requires-2 g c).After-loop-j).room
+said g c =
+    let s = (goal.at.After-print_fields g c).Start in
+    let (put, short) = c.print_fields.ensures (shown g s) (record { asks = λ t x r. (c.requires.1, r); puts = λ t x r p. p; room = room g s }) in
+    rw (generator-fields c.args.n c.args.g.now) (put, omega (arith, short))
 
 pub returns-clause-printed : goal.returns-clause-printed
-returns-clause-printed g c =
-    let laws = g.met.S.Sink.laws in
-    left-none laws refl (left_less laws _ [] refl (last g (goal.at.returns-clause-printed g c).After-loop-j) c.put-2.ensures)
+returns-clause-printed g c = (said g c).0
 
 pub returns-clause-short : goal.returns-clause-short
-unfolding generator_line
-returns-clause-short g c =
-    let k = long g (goal.at.returns-clause-short g c).Start in
-    omega (arith, generator-most 31 (terms c.args.n c.args.g) (printing-short g.met.S.Sink.laws c.loop-j.invariant (omega (arith, k))))
+returns-clause-short g c = omega (arith, (said g c).1)

@@ -1,5 +1,5 @@
 -- `print::print_header` meets its contract.
-use mathlib.Core.Path.{refl}
+use mathlib.Core.Path.{refl, ap, sym}
 use mathlib.Core.List.{[], ◌∷◌, ◌++◌}
 use native.Mathlib.Omega.{arith}
 use Rattle.lists.specs.Lists.{Bytes}
@@ -23,7 +23,7 @@ pub put_bytes-requires : goal.put_bytes-requires
 unfolding bytes
 put_bytes-requires g c =
     let laws = g.met.S.Sink.laws in
-    left-room laws (bytes "basis\t") _ (header-after c.args.word.now c.args.p c.args.n) (left-all laws refl c.requires.1)
+    left-room laws (bytes "basis\t") _ (header-after c.args.word.now c.args.p c.args.n) (left-all laws refl c.requires)
 
 after-basis : (g : _) (c : After-put_bytes g) →
     let s = (goal.at.After-put_bytes g c).Start in
@@ -31,7 +31,7 @@ after-basis : (g : _) (c : After-put_bytes g) →
 unfolding bytes
 after-basis g c =
     let laws = g.met.S.Sink.laws in
-    left_less laws (bytes "basis\t") _ (header-after _ _ _) (left-all laws refl c.requires.1) c.put_bytes.ensures
+    left_less laws (bytes "basis\t") _ (header-after _ _ _) (left-all laws refl c.requires) c.put_bytes.ensures
 
 pub put_bytes-requires-2 : goal.put_bytes-requires-2
 put_bytes-requires-2 g c = left-room g.met.S.Sink.laws c.args.word.now _ refl (after-basis g (goal.at.put_bytes-requires-2 g c).After-put_bytes)
@@ -48,10 +48,14 @@ after-p : (g : _) (c : After-print_after g) → Rest g (goal.at.After-print_afte
 after-p g c = left_less g.met.S.Sink.laws _ _ refl (after-order g (goal.at.After-print_after g c).After-put_bytes-2) c.print_after.ensures
 
 pub print_after-requires-2 : goal.print_after-requires-2
-print_after-requires-2 g c = left-room g.met.S.Sink.laws (9 ∷ decimal c.args.n) _ refl (after-p g (goal.at.print_after-requires-2 g c).After-print_after)
+print_after-requires-2 g c =
+    let same = ap (λ k. 9 ∷ decimal k ++ (10 ∷ [])) (sym c.count.ensures.value) in
+    left-room g.met.S.Sink.laws (9 ∷ decimal c.count.result) _ same (after-p g (goal.at.print_after-requires-2 g c).After-print_after)
 
 after-n : (g : _) (c : After-print_after-2 g) → Rest g (goal.at.After-print_after-2 g c).Start (10 ∷ []) c.print_after-2.new.sink
-after-n g c = left_less g.met.S.Sink.laws _ _ refl (after-p g (goal.at.After-print_after-2 g c).After-print_after) c.print_after-2.ensures
+after-n g c =
+    let same = ap (λ k. 9 ∷ decimal k ++ (10 ∷ [])) (sym c.count.ensures.value) in
+    left_less g.met.S.Sink.laws _ _ same (after-p g (goal.at.After-print_after-2 g c).After-print_after) c.print_after-2.ensures
 
 pub put-requires : goal.put-requires
 put-requires g c = (after-n g (goal.at.put-requires g c).After-print_after-2).room

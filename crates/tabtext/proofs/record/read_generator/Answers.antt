@@ -12,13 +12,13 @@ pub returns-then-not-byte_is : goal.returns-then-not-byte_is
 unfolding bytes read_generator
 returns-then-not-byte_is c =
     let no-tab = ahead-bad _ (sym c.byte_is.ensures ∙ c.if-not-byte_is.true) in
-    line-missing c.requires.0 _ (after-bad _ _ _ no-tab)
+    line-missing c.requires _ (after-bad _ _ _ no-tab)
 
 pub returns-in_err-next : goal.returns-in_err-next
 unfolding bytes read_generator
 returns-in_err-next c =
     let one = ahead-got _ (sym c.byte_is.ensures ∙ c.if-not-byte_is.false) in
-    c.from_residual.ensures ∙ line-missing c.requires.0 _ (after-got _ _ _ one ∙ then-bad _ _ _ c.in_err-next.ensures)
+    c.from_residual.ensures ∙ line-missing c.requires _ (after-got _ _ _ one ∙ then-bad _ _ _ c.in_err-next.ensures)
 
 pub overflow_sub-end : goal.overflow_sub-end
 overflow_sub-end c = omega (arith, c.in_ok-next.ensures.1.after)
@@ -28,4 +28,4 @@ unfolding bytes pure read_generator
 returns c =
     let one = ahead-got _ (sym c.byte_is.ensures ∙ c.if-not-byte_is.false) in
     let terms = c.in_ok-next.ensures.1 in
-    line-found c.requires.0 _ (after-got _ _ _ one ∙ then-got _ _ _ terms.reads) terms.inside refl
+    line-found c.requires _ (after-got _ _ _ one ∙ then-got _ _ _ terms.reads) terms.inside refl

@@ -1,7 +1,6 @@
 -- `record::read_kind` meets its contract: the first word decides, and where none of the words stands there is no line.
 use mathlib.Core.Path.{refl, ◌∙◌}
 use lib.ListN.{drop}
-use borrow.Author.Rules.{rules}
 use Rattle.tabtext.specs.Text.{bytes}
 use Rattle.tabtext.specs.Readers.{pure, read_header, read_generator, read_standard, read_points, read_end}
 use Rattle.tabtext.specs.Answers.{WordAt}
@@ -30,11 +29,11 @@ read_header-requires c = rw c.if-word_at.true at c.word_at.ensures
 
 pub read_generator-requires : goal.read_generator-requires
 unfolding bytes
-read_generator-requires c = (rw c.if-word_at-2.true at c.word_at-else-word_at.ensures, search rules)
+read_generator-requires c = rw c.if-word_at-2.true at c.word_at-else-word_at.ensures
 
 pub read_standard-requires : goal.read_standard-requires
 unfolding bytes
-read_standard-requires c = (rw c.if-word_at-3.true at c.word_at-else-word_at-2.ensures, search rules)
+read_standard-requires c = rw c.if-word_at-3.true at c.word_at-else-word_at-2.ensures
 
 pub returns-then-word_at : goal.returns-then-word_at
 unfolding bytes

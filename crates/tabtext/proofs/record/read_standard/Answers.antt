@@ -9,7 +9,7 @@ use Rattle.tabtext.proofs.record.read_standard.Goals as goal
 
 pub returns-in_err-next : goal.returns-in_err-next
 unfolding bytes read_standard
-returns-in_err-next c = c.from_residual.ensures ∙ line-missing c.requires.0 _ (then-bad _ _ _ c.in_err-next.ensures)
+returns-in_err-next c = c.from_residual.ensures ∙ line-missing c.requires _ (then-bad _ _ _ c.in_err-next.ensures)
 
 pub overflow_sub-end : goal.overflow_sub-end
 overflow_sub-end c = omega (arith, c.in_ok-next.ensures.1.after)
@@ -18,4 +18,4 @@ pub returns : goal.returns
 unfolding bytes pure read_standard
 returns c =
     let rows = c.in_ok-next.ensures.1 in
-    line-found c.requires.0 _ (then-got _ _ _ rows.reads) rows.inside refl
+    line-found c.requires _ (then-got _ _ _ rows.reads) rows.inside refl

@@ -4,4 +4,4 @@ use Rattle.tabtext.proofs.Places.{starts-within}
 use Rattle.tabtext.proofs.terms.fn.read_terms.term.Goals as goal
 
 pub overflow_add-i : goal.overflow_add-i
-overflow_add-i c = omega (arith, starts-within _ c.captures.text.now c.args.i c.requires.1)
+overflow_add-i c = omega (arith, starts-within _ c.captures.text.now c.args.i c.requires)
