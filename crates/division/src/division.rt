@@ -1,16 +1,17 @@
 // Division by the lines of a basis, on a lent array of coefficients: that of a monomial stands at its place in grevlex order.
 //
+//   generator_at            a line of a basis
 //   add_term, add_product   a term, a multiple of a line are added
 //   add_line                the multiple of a line whose leading monomial is given is added
 //   earliest                the earliest leading monomial that divides a monomial
 //   sweep                   all monomials in turn, from the greatest down
-ghost use Rattle.std.specs.Prelude.{◌≡◌, true, [], ◌∷◌, ◌≤◌, position};
+ghost use Rattle.std.specs.Prelude.{◌≡◌, true, [], ◌∷◌, ◌≤◌, ◌<◌, length, position};
 ghost use Rattle.residue.specs.Field.{residue};
 ghost use Rattle.monomial.specs.Rows.{product};
 ghost use Rattle.monomial.specs.Quotients.{divides};
 ghost use Rattle.monomial.specs.Represented.{row};
 ghost use Rattle.lines.specs.LineTerms.{monomial_at};
-ghost use Rattle.staircase.specs.Sound.{SoundLine};
+ghost use Rattle.staircase.specs.Sound.{generator_at, SoundLine};
 ghost use Rattle.division.specs.CoefficientArray.{Addend, AddsPolynomial};
 ghost use Rattle.division.specs.Clearing.{product_of, multiple_of, Dividend, Sweeps};
 
@@ -21,6 +22,14 @@ use monomial::Monomial;
 use monomial::count::Variables;
 use residue::Residue;
 use staircase::leads::leads_of;
+
+// Line k of a basis, from 0.
+pub fn generator_at(basis: &StoredBasis, k: usize) -> &[LineTerm]
+    requires { k < length basis.now.lines.items }
+    ensures { result.now ≡ generator_at basis.now k }
+{
+    &basis.lines[k]
+}
 
 // c·m is added.
 fn add_term(work: &mut [u16], c: Residue, m: Monomial, p: u16, n: Variables)
@@ -79,7 +88,8 @@ pub fn sweep(work: &mut [u16], basis: &StoredBasis, top: Monomial) -> bool
             let Some(k) = earliest(&leads, m, basis.n) else {
                 return false;
             };
-            add_line(work, c.neg(basis.p), m, &basis.lines[k], basis.p, basis.n);
+            let g = generator_at(basis, k);
+            add_line(work, c.neg(basis.p), m, g, basis.p, basis.n);
         }
     }
     true

@@ -11,7 +11,7 @@ ghost use Rattle.division.specs.GrevlexPlace.{space};
 ghost use Rattle.division.specs.CoefficientArray.{AddsPolynomial};
 ghost use Rattle.division.specs.PairRemainders.{leads_lcm, Pairable, PairableOn, PairOf, pair_difference, PairSays, EarlierSays, FirstFailing};
 
-use crate::division::{add_line, sweep};
+use crate::division::{add_line, generator_at, sweep};
 use lines::StoredBasis;
 use lines::line::lead;
 use monomial::Monomial;
@@ -22,8 +22,8 @@ fn lead_lcm(basis: &StoredBasis, i: usize, j: usize) -> Monomial
     requires { (i < length basis.now.lines.items) × (j < length basis.now.lines.items) }
     ensures { row basis.now.n result ≡ leads_lcm basis.now i j }
 {
-    let f = lead(&basis.lines[i]);
-    let g = lead(&basis.lines[j]);
+    let f = lead(generator_at(basis, i));
+    let g = lead(generator_at(basis, j));
     f.lcm(g, basis.n)
 }
 
@@ -34,8 +34,10 @@ fn load_pair(work: &mut [u16], basis: &StoredBasis, i: usize, j: usize, top: Mon
 {
     let one = Residue::ONE;
     let p = basis.p;
-    add_line(work, one, top, &basis.lines[i], p, basis.n);
-    add_line(work, one.neg(p), top, &basis.lines[j], p, basis.n);
+    let f = generator_at(basis, i);
+    let g = generator_at(basis, j);
+    add_line(work, one, top, f, p, basis.n);
+    add_line(work, one.neg(p), top, g, p, basis.n);
 }
 
 // Whether the remainder of the S-polynomial of lines i and j is not zero. The array holds zero, and does so afterwards if the remainder is zero.

@@ -1,26 +1,17 @@
 -- `sweep` meets its contract. The loop's invariant: the array is divided down to m.
-use mathlib.Core.Path.{◌≡◌, sym, ◌∙◌, ap}
+use mathlib.Core.Path.{sym, ◌∙◌}
 use native.Mathlib.Omega.{arith}
 use borrow.Author.Tests.{eqb-true, eqb-false}
-use lib.ListN.{length}
 use Rattle.monomial.specs.Represented.{row}
-use Rattle.staircase.specs.Sound.{generator_at}
-use Rattle.staircase.proofs.LineElements.{generator-read}
 use Rattle.division.proofs.BasisSystem.{FirstDivisor, first-line, no-line}
 use Rattle.division.proofs.ClearedMonomials.{clears-idle, clears-subtracted, clears-stuck}
 use Rattle.division.proofs.SweptArrays.{swept-start, swept-low, swept-place, swept-turn, swept-true, swept-false}
-use Rattle.division.proofs.division.sweep.Goals.{In-Some, After-deref-then-not-is_zero-2}
+use Rattle.division.proofs.division.sweep.Goals.{In-Some}
 use Rattle.division.proofs.division.sweep.Goals as goal
 
 -- The earliest line that divides the monomial of this turn.
 first : (c : In-Some) → FirstDivisor c.args.basis.now (row c.args.basis.now.n c.before-m.result) c.in-Some.k
 first c = first-line _ _ _ (rw (c.deref.ensures.0, c.leads_of-leads.ensures) at (sym c.earliest.ensures ∙ c.in-Some.is))
-
--- The line that is read.
-read : (c : After-deref-then-not-is_zero-2) → c.deref-then-not-is_zero-2.result.now ≡ generator_at c.args.basis.now c.in-Some.k
-read c =
-    let f = first (goal.at.After-deref-then-not-is_zero-2 c).In-Some in
-    generator-read c.args.basis.now c.in-Some.k c.deref-then-not-is_zero.ensures.0 (omega (arith, f.within, ap length c.deref-then-not-is_zero.ensures.0)) c.index-deref-k.is c.deref-then-not-is_zero-2.ensures.0
 
 pub loop-at-init : goal.loop-at-init
 loop-at-init c = swept-start c.requires c.place-at.ensures.value
@@ -32,14 +23,14 @@ returns-in_default c =
     let none = no-line c.args.basis.now _ (rw (c.deref.ensures.0, c.leads_of-leads.ensures) at (sym c.earliest.ensures ∙ c.in_default.is)) in
     swept-false s _ e (clears-stuck _ _ (swept-place s _ e) (eqb-false _ _ (sym c.is_zero.ensures ∙ c.if-not-is_zero.true)) none)
 
-pub bounds-deref-k : goal.bounds-deref-k
-bounds-deref-k c = omega (arith, (first (goal.at.bounds-deref-k c).In-Some).within, ap length c.deref-then-not-is_zero.ensures.0)
+pub generator_at-g-requires : goal.generator_at-g-requires
+generator_at-g-requires c = (first (goal.at.generator_at-g-requires c).In-Some).within
 
 pub add_line-requires : goal.add_line-requires
 add_line-requires c =
     let s = c.loop-at.invariant in
     let f = first (goal.at.add_line-requires c).In-Some in
-    rw (read (goal.at.add_line-requires c).After-deref-then-not-is_zero-2) (
+    rw c.generator_at-g.ensures (
       s.sound.lines _ f.within,
       record { work = s.work; residue = c.neg.ensures.1; low = swept-low s _ c.before-m.ensures },
       f.here,
@@ -49,9 +40,9 @@ pub loop-at-preserved-then-not-is_zero : goal.loop-at-preserved-then-not-is_zero
 loop-at-preserved-then-not-is_zero c =
     let s = c.loop-at.invariant in
     let e = c.before-m.ensures in
-    let turn = goal.at.loop-at-preserved-then-not-is_zero c in
-    let added = rw (read turn.After-deref-then-not-is_zero-2) at c.add_line.ensures in
-    swept-turn s _ e (clears-subtracted _ _ (swept-place s _ e) _ c.neg.ensures.0 (first turn.In-Some) added)
+    let f = first (goal.at.loop-at-preserved-then-not-is_zero c).In-Some in
+    let added = rw c.generator_at-g.ensures at c.add_line.ensures in
+    swept-turn s _ e (clears-subtracted _ _ (swept-place s _ e) _ c.neg.ensures.0 f added)
 
 pub loop-at-preserved : goal.loop-at-preserved
 loop-at-preserved c =
