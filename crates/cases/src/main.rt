@@ -2,11 +2,8 @@
 // an output that is a byte too short gives, and one of exactly its length.
 #![tactic(auto)]
 
-ghost use Rattle.std.specs.Prelude.{◌≡◌, length};
-ghost use Rattle.tabtext.specs.Sizes.{most_bytes};
-
 use answer::Answer;
-use console::{input_buffer, print_converted, print_refusal, read_full};
+use console::{INPUT_BYTES, print_converted, print_refusal, read_full};
 use convert::convert;
 use std::env::Env;
 use std::io::{Read, Write};
@@ -30,12 +27,6 @@ fn unchanged(output: &[u8], from: usize) -> bool {
     output.iter().skip(from).all(|&byte| byte == BEFORE)
 }
 
-fn marked_buffer() -> [u8; MAX_BYTES]
-    ensures { most_bytes ≡ length result }
-{
-    [BEFORE; MAX_BYTES]
-}
-
 // With the first `room` bytes of the output alone.
 fn convert_within(input: &[u8], output: &mut [u8], room: usize) -> Answer {
     if output.len() < room {
@@ -46,7 +37,7 @@ fn convert_within(input: &[u8], output: &mut [u8], room: usize) -> Answer {
 
 // With `room` bytes of output: the answer, and whether the bytes after the length written are unchanged, those past the room too.
 fn print_with_room<W: Write>(out: &mut W, input: &[u8], room: usize) -> io::Result<()> {
-    let mut output = marked_buffer();
+    let mut output = [BEFORE; MAX_BYTES];
     let answer = convert_within(input, &mut output, room);
     match answer {
         Ok(size) => {
@@ -74,7 +65,7 @@ fn run<W: Write>(out: &mut W, input: &[u8]) -> io::Result<()> {
 
 // The text in an open file of that name.
 fn run_file<W: Write, F: Read>(out: &mut W, name: &str, file: &mut F) -> io::Result<()> {
-    let mut input = input_buffer();
+    let mut input = [0; INPUT_BYTES];
     let n = read_full(file, &mut input)?;
     writeln!(out, "{name}")?;
     run(out, &input[..n])

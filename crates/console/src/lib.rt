@@ -1,7 +1,7 @@
-// What the programs share: the buffers, the reading of a text, and the printing of an answer.
+// What the programs share: the size of an input, the reading of a text, and the printing of an answer.
 #![tactic(auto)]
 
-ghost use Rattle.std.specs.Prelude.{◌≡◌, ◌≤◌, suc, length};
+ghost use Rattle.std.specs.Prelude.{◌≡◌, length};
 ghost use Rattle.std.specs.Io.{ReadsAtMost};
 ghost use Rattle.lists.specs.Lists.{Bytes};
 ghost use Rattle.answer.specs.Outcomes.{Judged};
@@ -17,18 +17,7 @@ use std::io::{Read, Write};
 use tabtext::sizes::MAX_BYTES;
 
 // One byte more than an input may have, so that a longer one is told.
-pub fn input_buffer() -> [u8; MAX_BYTES + 1]
-    ensures { suc most_bytes ≡ length result }
-{
-    [0; MAX_BYTES + 1]
-}
-
-// As many bytes as every output has room in.
-pub fn output_buffer() -> [u8; MAX_BYTES]
-    ensures { most_bytes ≡ length result }
-{
-    [0; MAX_BYTES]
-}
+pub const INPUT_BYTES: usize = MAX_BYTES + 1;
 
 // Reads until the buffer is full or the input ends: how many bytes stand at the front of the buffer.
 pub fn read_full<R: Read>(reader: &mut R, buffer: &mut [u8]) -> io::Result<usize>
@@ -49,12 +38,6 @@ pub fn print_refusal<W: Write>(out: &mut W, refused: Refused) -> io::Result<()> 
     writeln!(out, "{refused}")
 }
 
-fn print_bytes<W: Write>(out: &mut W, output: &[u8], size: usize) -> io::Result<()>
-    requires { size ≤ length output.now }
-{
-    out.write_all(&output[..size])
-}
-
 // The answer for a text and an output of 65,536 bytes, and so never 16. What is to be printed is left in that output.
 pub fn judge(input: &[u8], output: &mut [u8]) -> Answer
     requires { most_bytes ≡ length output.old }
@@ -68,10 +51,10 @@ pub fn judge(input: &[u8], output: &mut [u8]) -> Answer
 pub fn print_converted<W: Write>(out: &mut W, input: &[u8]) -> (Answer, io::Result<()>)
     ensures { ((o : Judged Bytes) × Outcome input.now most_bytes o × (pair result.0 ≡ returned o)) × (¬ ((pair result.0).0 ≡ 16)) }
 {
-    let mut output = output_buffer();
+    let mut output = [0; MAX_BYTES];
     let answer = judge(input, &mut output);
     let printed = match answer {
-        Ok(size) => print_bytes(out, &output, size),
+        Ok(size) => out.write_all(&output[..size]),
         Err(refused) => print_refusal(out, refused),
     };
     (answer, printed)
