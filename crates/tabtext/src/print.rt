@@ -12,8 +12,7 @@
 //   print_header               a basis line
 //   print_count                a runs line or an end line
 ghost use Rattle.std.specs.Prelude.{◌≡◌, ◌∷◌, ℕ, ◌+◌, ◌*◌, ◌≤◌, ◌<◌, length, get_or};
-ghost use Rattle.monomial.specs.Sizes.{most_variables, VariableCount};
-ghost use Rattle.lines.specs.Sizes.{most_terms};
+ghost use Rattle.monomial.specs.Sizes.{most_variables};
 ghost use Rattle.lines.specs.LineTerms.{exponents_of};
 ghost use Rattle.tabtext.specs.Text.{Number, header, decimal, dotted, term};
 ghost use Rattle.tabtext.specs.Printed.{generator_line, standard_line, printed, count_line, fields_line, Shown, PrintsFields};
@@ -42,10 +41,13 @@ fn exponent_at(m: Monomial, i: usize) -> u32
 }
 
 pub fn print_exponents<S: Sink>(sink: &mut S, m: Monomial, n: Variables)
-    requires { VariableCount n × S.takes sink.old (length (dotted (exponents_of n m))) }
+    requires { S.takes sink.old (length (dotted (exponents_of n m))) }
     ensures printed { sink.new ≡ S.after sink.old (dotted (exponents_of n m)) }
     ensures short { length (dotted (exponents_of n m)) ≤ 24 }
 {
+    if n.count() == 0 {
+        return;
+    }
     sink.put_number(exponent_at(m, 0));
     for j in 1..n.count() {
         print_after(&mut *sink, b'.', exponent_at(m, j));
@@ -53,7 +55,7 @@ pub fn print_exponents<S: Sink>(sink: &mut S, m: Monomial, n: Variables)
 }
 
 pub fn print_term<S: Sink>(sink: &mut S, c: Residue, m: Monomial, n: Variables)
-    requires { VariableCount n × S.takes sink.old (length (term (c.0, exponents_of n m))) }
+    requires { S.takes sink.old (length (term (c.0, exponents_of n m))) }
     ensures printed { sink.new ≡ S.after sink.old (term (c.0, exponents_of n m)) }
     ensures short { length (term (c.0, exponents_of n m)) ≤ 30 }
 {
@@ -78,12 +80,12 @@ fn print_fields<S: Sink, T, F: Fn(&mut S, &T)>(sink: &mut S, word: &[u8], items:
 }
 
 pub fn print_generator<S: Sink>(sink: &mut S, g: &[LineTerm], n: Variables)
-    requires { (length g.now ≤ most_terms) × VariableCount n × S.takes sink.old (length (printed (generator_line n g.now))) }
+    requires { S.takes sink.old (length (printed (generator_line n g.now))) }
     ensures printed { sink.new ≡ S.after sink.old (printed (generator_line n g.now)) }
-    ensures short { length (printed (generator_line n g.now)) ≤ 5 + 31 * most_terms }
+    ensures short { length (printed (generator_line n g.now)) ≤ 5 + 31 * length g.now }
 {
     let field = |s: &mut S, t: &LineTerm|
-        requires { VariableCount n × S.takes s.old (length (term (t.now.coefficient.0, exponents_of n t.now.monomial))) }
+        requires { S.takes s.old (length (term (t.now.coefficient.0, exponents_of n t.now.monomial))) }
         ensures printed { s.new ≡ S.after s.old (term (t.now.coefficient.0, exponents_of n t.now.monomial)) }
         ensures short { length (term (t.now.coefficient.0, exponents_of n t.now.monomial)) ≤ 30 }
     {
@@ -93,12 +95,12 @@ pub fn print_generator<S: Sink>(sink: &mut S, g: &[LineTerm], n: Variables)
 }
 
 pub fn print_standard<S: Sink>(sink: &mut S, monomials: &[Monomial], n: Variables)
-    requires { VariableCount n × S.takes sink.old (length (printed (standard_line n monomials.now))) }
+    requires { S.takes sink.old (length (printed (standard_line n monomials.now))) }
     ensures printed { sink.new ≡ S.after sink.old (printed (standard_line n monomials.now)) }
     ensures short { length (printed (standard_line n monomials.now)) ≤ 7 + 25 * length monomials.now }
 {
     let field = |s: &mut S, m: &Monomial|
-        requires { VariableCount n × S.takes s.old (length (dotted (exponents_of n m.now))) }
+        requires { S.takes s.old (length (dotted (exponents_of n m.now))) }
         ensures printed { s.new ≡ S.after s.old (dotted (exponents_of n m.now)) }
         ensures short { length (dotted (exponents_of n m.now)) ≤ 24 }
     {

@@ -1,12 +1,13 @@
 -- `print::print_exponents` meets its contract. The loop's invariant: the exponents from place j on are left, each with a dot before it.
-use Prim.Native.Nat.{◌<◌}
-use mathlib.Core.Path.{◌≡◌, refl}
+use Prim.Native.Nat.{ℕ, ◌<◌}
+use mathlib.Core.Path.{◌≡◌, refl, sym, ap}
 use mathlib.Core.List.{[], ◌++◌}
 use borrow.Author.Rules.{rules}
 use native.Mathlib.Omega.{arith}
 use lib.ListN.{length}
 use Rattle.lists.proofs.Elements.{length-mapped}
 use Rattle.monomial.specs.Sizes.{most_variables}
+use Rattle.monomial.specs.declared.Monomial.{Monomial}
 use Rattle.lines.specs.LineTerms.{exponents_of}
 use Rattle.tabtext.specs.Text.{decimal, dotted}
 use Rattle.tabtext.proofs.FieldPrinting.{each_more, printing-room, printing-turn, printing-last, printing-short}
@@ -17,16 +18,31 @@ use Rattle.tabtext.proofs.Writing.{left-all, left_less, left-none, left-room}
 use Rattle.tabtext.proofs.print.print_exponents.Goals.{After-exponent_at, After-exponent_at-in-loop-j, Start}
 use Rattle.tabtext.proofs.print.print_exponents.Goals as goal
 
+-- In no variables there is nothing to print.
+none : (n : ℕ) (m : Monomial) → n ≡ 0 → dotted (exponents_of n m) ≡ []
+unfolding dotted exponents_of
+none n m e = rw e refl
+
+pub returns-then-count-eq0-clause-printed : goal.returns-then-count-eq0-clause-printed
+returns-then-count-eq0-clause-printed g c = rw (none c.args.n c.args.m (omega arith)) (sym (g.met.S.Sink.laws.nothing c.args.sink.now))
+
+pub returns-then-count-eq0-clause-short : goal.returns-then-count-eq0-clause-short
+returns-then-count-eq0-clause-short g c = omega (arith, ap length (none c.args.n c.args.m (omega arith)))
+
 -- The row's length, from the type of the monomial.
 long : (g : _) (c : Start g) → length (exponents_of c.args.n c.args.m) ≡ c.args.n
 long g c =
     let k : length c.args.m.e ≡ most_variables = search (length-mapped, rules) in
     exponents-length-of c.args.n c.args.m (omega arith)
 
+-- There is one.
+some : (g : _) (c : After-exponent_at g) → 0 < c.args.n
+some g c = omega arith
+
 -- The first exponent.
 first : (g : _) (c : After-exponent_at g) → StandsAt (exponents_of c.args.n c.args.m) 0 c.exponent_at.result
 first g c =
-    exponent-stands c.args.n 0 _ _ (long g (goal.at.After-exponent_at g c).Start) c.requires.0.some (c.exponent_at.ensures.0 _ c.requires.0.some)
+    exponent-stands c.args.n 0 _ _ (long g (goal.at.After-exponent_at g c).Start) (some g c) (c.exponent_at.ensures.0 _ (some g c))
 
 -- The row is it and the later ones.
 parted : (g : _) (c : After-exponent_at g) →
@@ -37,14 +53,14 @@ parted g c = exponents-after _ _ (first g c)
 pub put_number-requires : goal.put_number-requires
 put_number-requires g c =
     let laws = g.met.S.Sink.laws in
-    left-room laws (decimal c.exponent_at.result) _ (parted g c) (left-all laws refl c.requires.1)
+    left-room laws (decimal c.exponent_at.result) _ (parted g c) (left-all laws refl c.requires)
 
 pub loop-j-init : goal.loop-j-init
 loop-j-init g c =
     let laws = g.met.S.Sink.laws in
     let s = (goal.at.loop-j-init g c).After-exponent_at in
     record {
-      left = left_less laws _ _ (parted g s) (left-all laws refl c.requires.1) c.put_number.ensures;
+      left = left_less laws _ _ (parted g s) (left-all laws refl c.requires) c.put_number.ensures;
       short = each_more (λ v. length (decimal v) < 6) _ 0 _ (first g s) (omega (arith, number-width-5 _ c.exponent_at.ensures.1)) tt;
     }
 
@@ -70,4 +86,4 @@ returns-clause-printed g c =
 pub returns-clause-short : goal.returns-clause-short
 returns-clause-short g c =
     let k = long g (goal.at.returns-clause-short g c).Start in
-    row-width-5 _ _ k c.requires.0.most (printing-short g.met.S.Sink.laws c.loop-j.invariant (omega (arith, k)))
+    row-width-5 _ _ k (omega arith) (printing-short g.met.S.Sink.laws c.loop-j.invariant (omega (arith, k)))

@@ -17,13 +17,13 @@ shown g c = record { bytes = λ t. term (t.coefficient.0, exponents_of c.args.n 
 
 -- Room for the line.
 room : (g : _) (c : Start g) → g.S.Sink.takes c.args.sink.now (length (fields_line (shown g c).bytes (bytes "poly") c.args.g.now))
-room g c = subst (λ l. g.S.Sink.takes c.args.sink.now (length l)) (generator-fields c.args.n c.args.g.now) c.requires.2
+room g c = subst (λ l. g.S.Sink.takes c.args.sink.now (length l)) (generator-fields c.args.n c.args.g.now) c.requires
 
 pub print_fields-requires : goal.print_fields-requires
 unfolding bytes
 print_fields-requires g c =
     let s = (goal.at.print_fields-requires g c).Start in
-    (shown g s, record { asks = λ t x r. (c.requires.1, r); puts = λ t x r p. p; room = room g s })
+    (shown g s, record { asks = λ t x r. r; puts = λ t x r p. p; room = room g s })
 
 said : (g : _) (c : After-print_fields g) →
     let l = printed (generator_line c.args.n c.args.g.now) in
@@ -31,11 +31,11 @@ said : (g : _) (c : After-print_fields g) →
 unfolding bytes
 said g c =
     let s = (goal.at.After-print_fields g c).Start in
-    let (put, short) = c.print_fields.ensures (shown g s) (record { asks = λ t x r. (c.requires.1, r); puts = λ t x r p. p; room = room g s }) in
+    let (put, short) = c.print_fields.ensures (shown g s) (record { asks = λ t x r. r; puts = λ t x r p. p; room = room g s }) in
     rw (generator-fields c.args.n c.args.g.now) (put, omega (arith, short))
 
 pub returns-clause-printed : goal.returns-clause-printed
 returns-clause-printed g c = (said g c).0
 
 pub returns-clause-short : goal.returns-clause-short
-returns-clause-short g c = omega (arith, (said g c).1)
+returns-clause-short g c = (said g c).1

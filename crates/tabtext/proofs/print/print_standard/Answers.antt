@@ -17,13 +17,13 @@ shown g c = record { bytes = λ m. dotted (exponents_of c.args.n m); most = 24 }
 
 -- Room for the line.
 room : (g : _) (c : Start g) → g.S.Sink.takes c.args.sink.now (length (fields_line (shown g c).bytes (bytes "stairs") c.args.monomials.now))
-room g c = subst (λ l. g.S.Sink.takes c.args.sink.now (length l)) (standard-fields c.args.n c.args.monomials.now) c.requires.1
+room g c = subst (λ l. g.S.Sink.takes c.args.sink.now (length l)) (standard-fields c.args.n c.args.monomials.now) c.requires
 
 pub print_fields-requires : goal.print_fields-requires
 unfolding bytes
 print_fields-requires g c =
     let s = (goal.at.print_fields-requires g c).Start in
-    (shown g s, record { asks = λ t x r. (c.requires.0, r); puts = λ t x r p. p; room = room g s })
+    (shown g s, record { asks = λ t x r. r; puts = λ t x r p. p; room = room g s })
 
 said : (g : _) (c : After-print_fields g) →
     let l = printed (standard_line c.args.n c.args.monomials.now) in
@@ -31,7 +31,7 @@ said : (g : _) (c : After-print_fields g) →
 unfolding bytes
 said g c =
     let s = (goal.at.After-print_fields g c).Start in
-    let (put, short) = c.print_fields.ensures (shown g s) (record { asks = λ t x r. (c.requires.0, r); puts = λ t x r p. p; room = room g s }) in
+    let (put, short) = c.print_fields.ensures (shown g s) (record { asks = λ t x r. r; puts = λ t x r p. p; room = room g s }) in
     rw (standard-fields c.args.n c.args.monomials.now) (put, omega (arith, short))
 
 pub returns-clause-printed : goal.returns-clause-printed

@@ -13,7 +13,7 @@ use Rattle.tabtext.proofs.print.print_term.Goals as goal
 pub put_number-requires : goal.put_number-requires
 put_number-requires g c =
     let laws = g.met.S.Sink.laws in
-    left-room laws (decimal c.args.c.0) _ (term-parts _ (exponents_of c.args.n c.args.m)) (left-all laws refl c.requires.1)
+    left-room laws (decimal c.args.c.0) _ (term-parts _ (exponents_of c.args.n c.args.m)) (left-all laws refl c.requires)
 
 -- What is left after the coefficient.
 first : (g : _) (c : After-put_number g) →
@@ -22,7 +22,7 @@ first : (g : _) (c : After-put_number g) →
     Left g.S.Sink.takes g.S.Sink.after s.sink.now (term (s.c.0, e)) (58 ∷ dotted e) c.put_number.new.self
 first g c =
     let laws = g.met.S.Sink.laws in
-    left_less laws _ _ (term-parts _ _) (left-all laws refl c.requires.1) c.put_number.ensures
+    left_less laws _ _ (term-parts _ _) (left-all laws refl c.requires) c.put_number.ensures
 
 pub put-requires : goal.put-requires
 put-requires g c = left-room g.met.S.Sink.laws (58 ∷ []) _ refl (first g (goal.at.put-requires g c).After-put_number)
@@ -35,7 +35,7 @@ colon : (g : _) (c : After-put g) →
 colon g c = left_less g.met.S.Sink.laws (58 ∷ []) _ refl (first g (goal.at.After-put g c).After-put_number) c.put.ensures
 
 pub print_exponents-requires : goal.print_exponents-requires
-print_exponents-requires g c = (c.requires.0, (colon g (goal.at.print_exponents-requires g c).After-put).room)
+print_exponents-requires g c = (colon g (goal.at.print_exponents-requires g c).After-put).room
 
 pub returns-clause-printed : goal.returns-clause-printed
 returns-clause-printed g c = left-last g.met.S.Sink.laws (colon g (goal.at.returns-clause-printed g c).After-put) c.print_exponents.ensures.printed
