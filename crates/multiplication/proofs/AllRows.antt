@@ -24,7 +24,7 @@ use Rattle.monomial.specs.Rows.{one}
 use Rattle.monomial.specs.Ordering.{Grevlex}
 use Rattle.monomial.proofs.GrevlexOrder.{grevlex-order}
 use Rattle.lines.specs.Sizes.{most_standard}
-use Rattle.lines.specs.Bases.{StoredBasis}
+use Rattle.lines.specs.declared.StoredBasis.{StoredBasis}
 use Rattle.staircase.specs.StoredLines.{stored_lines}
 use Rattle.staircase.specs.Listed.{listed}
 use Rattle.monomial.specs.declared.Monomial.{Monomial}

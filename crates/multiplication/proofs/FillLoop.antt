@@ -18,7 +18,7 @@
 --   fill_stop          after the last turn
 use mathlib.Core.Path.{◌≡◌, sym, subst}
 use mathlib.Core.List.{List}
-use Prim.Native.Nat.{ℕ, ◌+◌, ◌≤◌, ◌<◌}
+use Prim.Native.Nat.{ℕ, ◌+◌, ◌<◌}
 use native.Mathlib.Omega.{arith}
 use lib.ListN.{length, get_or, set, take, replicate}
 use Rattle.std.specs.Prelude.{Option, Some, None}
@@ -28,12 +28,13 @@ use Rattle.monomial.specs.Quotients.{variable}
 use Rattle.monomial.specs.Ranks.{RanksOf, VariableRanks, FirstRank, RisingRanks, Bounded, NextRank}
 use Rattle.monomial.proofs.RankPlaces.{ranks-bounded}
 use Rattle.lines.specs.Sizes.{most_standard}
-use Rattle.lines.specs.Bases.{StoredBasis}
-use Rattle.staircase.specs.Leads.{rows_of, LeadsOf}
+use Rattle.lines.specs.declared.StoredBasis.{StoredBasis}
+use Rattle.staircase.specs.Leads.{rows_of, leads_in}
 use Rattle.staircase.specs.Sound.{generator_at}
 use Rattle.staircase.specs.Listed.{listed, listed_at, PlaceAt, Place}
 use Rattle.monomial.specs.declared.Monomial.{Monomial}
 use Rattle.staircase.proofs.ArrayRows.{rows-length}
+use Rattle.staircase.proofs.LineLeads.{leads-length}
 use Rattle.staircase.proofs.RankedLists.{ranks-rising}
 use Rattle.coordinates.specs.Rows.{RowPut}
 use Rattle.coordinates.specs.declared.Coordinates.{Coordinates}
@@ -55,26 +56,20 @@ fillable-listing given = record { variables = given.sound.variables.most; few = 
 
 -- The list has the ranks rs, the variables xs, and the leading monomials gs.
 pub record Prepared (b : StoredBasis) (l : List Monomial) (rs xs gs : List ℕ) : Type 0 where
-  pub leads : List Monomial
   pub given : Fillable b l
-  pub lines : b.lines ≤ length b.generators
   pub ranked : RankedList b.n l rs xs
-  pub are : LeadsOf b leads
-  pub lead_size : length gs ≡ length leads
-  pub lead_ranks : RanksOf b.n (rows_of b.n leads) (length leads) gs
+  pub lead_size : length gs ≡ length (leads_in b)
+  pub lead_ranks : RanksOf b.n (rows_of b.n (leads_in b)) (length (leads_in b)) gs
 
-pub prepared : {b : StoredBasis} {l : List Monomial} {rs xs : List ℕ} (leads : List Monomial) {gs : List ℕ} → Fillable b l → b.lines ≤ length b.generators
-    → (length rs ≡ length l) × RanksOf b.n (listed b.n l) (length l) rs → VariableRanks b.n xs → LeadsOf b leads
-    → (length gs ≡ length leads) × RanksOf b.n (rows_of b.n leads) (length leads) gs → Prepared b l rs xs gs
-prepared {b} {l} leads given lines (size, ranks) variables are (lead_size, lead_ranks) =
+pub prepared : {b : StoredBasis} {l : List Monomial} {rs xs : List ℕ} {gs : List ℕ} → Fillable b l
+    → (length rs ≡ length l) × RanksOf b.n (listed b.n l) (length l) rs → VariableRanks b.n xs
+    → (length gs ≡ length (leads_in b)) × RanksOf b.n (rows_of b.n (leads_in b)) (length (leads_in b)) gs → Prepared b l rs xs gs
+prepared {b} {l} given (size, ranks) variables (lead_size, lead_ranks) =
     let h = given.sound.modulus.prime.above_one in
     let rising = subst (RisingRanks _) (sym size) (ranks-rising _ ranks (given.irreducibles.lists h).rising (rows-length b.n l)) in
     record {
-      leads = leads;
       given = given;
-      lines = lines;
       ranked = record { listing = fillable-listing given; size = size; ranks = ranks; rising = rising; variables = variables };
-      are = are;
       lead_size = lead_size;
       lead_ranks = lead_ranks;
     }
@@ -135,25 +130,25 @@ module _ {b : StoredBasis} {l : List Monomial} {rs xs gs cells : List ℕ} {c : 
 
         -- By the first place of the product's rank among those of the leading monomials.
         module _ {r : Option ℕ} (ranked : FirstRank gs (length gs) (get_or next i 0) r) where
-          lead : Place b.n (rows_of b.n known.leads) (product b.n (variable b.n i) (listed_at b.n l (cursor c i))) r
-          lead = list-place _ known.leads known.lead_size known.lead_ranks (nexts.held i hi fill-inside, product-short known.ranked.listing _ fill-inside _ hi) _ ranked
+          lead : Place b.n (rows_of b.n (leads_in b)) (product b.n (variable b.n i) (listed_at b.n l (cursor c i))) r
+          lead = list-place _ (leads_in b) known.lead_size known.lead_ranks (nexts.held i hi fill-inside, product-short known.ranked.listing _ fill-inside _ hi) _ ranked
 
           module _ {k : ℕ} (s : r ≡ Some k) where
-            led : PlaceAt b.n (rows_of b.n known.leads) (product b.n (variable b.n i) (listed_at b.n l (cursor c i))) k
+            led : PlaceAt b.n (rows_of b.n (leads_in b)) (product b.n (variable b.n i) (listed_at b.n l (cursor c i))) k
             led = rw s at lead
 
-            pub fill-line : k < b.lines
-            fill-line = omega (arith, led.within, rows-length b.n known.leads, known.are.0)
+            pub fill-line : k < length b.lines.items
+            fill-line = omega (arith, led.within, rows-length b.n (leads_in b), leads-length b)
 
             pub fill-led : {w : Coordinates} → TailRow b.p b.n (generator_at b k) l w → RowFor b l (tables_of cells) i (cursor c i) w
-            fill-led = row-led b known.given.sound l known.given.irreducibles known.lines known.leads known.are (tables_of cells) i (cursor c i) hi fill-inside led
+            fill-led = row-led b known.given.sound l known.given.irreducibles (tables_of cells) i (cursor c i) hi fill-inside led
 
           module _ (s : r ≡ None) where
             pub fill-through : Unlisted b.n l i (cursor c i) → Through b.n l i (cursor c i)
-            fill-through = comes-through b known.given.sound l known.given.irreducibles known.lines known.leads known.are (tables_of cells) i (cursor c i) hi fill-inside (rw s at lead)
+            fill-through = comes-through b known.given.sound l known.given.irreducibles (tables_of cells) i (cursor c i) hi fill-inside (rw s at lead)
 
             pub fill-made : {w : Coordinates} → MadeRow b.p b.n l (tables_of cells) i (cursor c i) w → RowFor b l (tables_of cells) i (cursor c i) w
-            fill-made = row_made b known.given.sound l known.given.irreducibles known.lines known.leads known.are (tables_of cells) i (cursor c i) hi fill-inside
+            fill-made = row_made b known.given.sound l known.given.irreducibles (tables_of cells) i (cursor c i) hi fill-inside
 
         module _ {r : ℕ} (rank : ProductRank rs (get_or xs i 0) (cursor c i + 1) r) where
           fill-nexts : Nexts b.n l (record { at = set c.at i (cursor c i + 1) }) (set next i r)

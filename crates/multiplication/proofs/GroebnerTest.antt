@@ -7,7 +7,7 @@ use mathlib.Core.Bool.{Bool, true}
 use mathlib.Core.List.{List}
 use mathlib.Core.Logic.Iff
 use mathlib.Core.Logic.{◌↔◌}
-use Prim.Native.Nat.{ℕ, ◌≤◌, ◌<◌}
+use Prim.Native.Nat.{ℕ, ◌<◌}
 use native.Mathlib.Omega.{arith}
 use lib.ListN.{length}
 use Rattle.residue.specs.Prime.{Prime}
@@ -23,7 +23,7 @@ use Rattle.groebner.proofs.Instance.{ground, criterion}
 use Rattle.groebner.proofs.MultiplicationRows.{rows-commute-iff}
 use Rattle.groebner.proofs.PowerLeads.{square-groebner}
 use Rattle.groebner.proofs.RisingLists.{lists-once}
-use Rattle.lines.specs.Bases.{StoredBasis}
+use Rattle.lines.specs.declared.StoredBasis.{StoredBasis}
 use Rattle.staircase.specs.StoredLines.{stored_lines}
 use Rattle.staircase.specs.Sound.{Sound}
 use Rattle.staircase.specs.Listed.{listed}
@@ -70,9 +70,9 @@ module _ {b : StoredBasis} {l : List Monomial} (candidate : Candidate b l) where
     pub acceptance : ((h : 1 < b.p) → (r ≡ true) ↔ RowsCommute (modulo b.p h) b.n (length l) (cell_of b.p h t)) → Acceptance b l r t
     acceptance test = answered (λ h. Iff.trans (test h) (rows-decide h))
 
-    pub square-acceptance : b.lines ≤ length b.generators → b.lines ≡ b.n → r ≡ true → Acceptance b l r t
-    square-acceptance held square e = answered (λ h. (
-      λ _. square-groebner (modulo b.p h) b.n (stored_lines b h) (zero_dimensional h) (clear h) (stored-lines-length b h held ∙ square)
+    pub square-acceptance : length b.lines.items ≡ b.n → r ≡ true → Acceptance b l r t
+    square-acceptance square e = answered (λ h. (
+      λ _. square-groebner (modulo b.p h) b.n (stored_lines b h) (zero_dimensional h) (clear h) (stored-lines-length b h ∙ square)
           (ground b.p (prime_at b sound h) b.n) (grevlex-order b.n) (low h),
       λ _. e,
     ))

@@ -1,7 +1,7 @@
 -- The place of a rank among those of a list.
 --   list-place   it is that of the monomial
 --   place-some   there is one, where the monomial is in the list
-use mathlib.Core.Path.{◌≡◌, refl, sym, ◌∙◌, subst}
+use mathlib.Core.Path.{◌≡◌, refl, subst}
 use mathlib.Core.List.{List}
 use Prim.Native.Nat.{ℕ}
 use lib.ListN.{length}

@@ -14,7 +14,7 @@ use Rattle.monomial.specs.Ordering.{monomials}
 use Rattle.groebner.specs.Polynomials.{δ, coef}
 use Rattle.groebner.specs.Lines.{Line, Reducible}
 use Rattle.groebner.specs.MultiplicationRows.{times_variable}
-use Rattle.lines.specs.Bases.{StoredBasis}
+use Rattle.lines.specs.declared.StoredBasis.{StoredBasis}
 use Rattle.staircase.specs.StoredLines.{stored_lines}
 use Rattle.staircase.specs.Listed.{listed}
 use Rattle.monomial.specs.declared.Monomial.{Monomial}

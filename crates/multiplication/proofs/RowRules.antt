@@ -42,15 +42,16 @@ use Rattle.groebner.proofs.ReducibleTest.{reducible-iff}
 use Rattle.groebner.proofs.Variables.{take-off}
 use Rattle.lines.specs.Sizes.{most_standard}
 use Rattle.lines.specs.LineTerms.{terms_in}
-use Rattle.lines.specs.Bases.{StoredBasis}
+use Rattle.lines.specs.declared.StoredBasis.{StoredBasis}
 use Rattle.staircase.specs.TermLines.{line_of}
 use Rattle.staircase.specs.StoredLines.{stored_lines}
-use Rattle.staircase.specs.Leads.{rows_of, LeadsOf}
+use Rattle.staircase.specs.Leads.{rows_of, leads_in}
 use Rattle.staircase.specs.Sound.{Sound, generator_at}
 use Rattle.staircase.specs.Listed.{listed, listed_at, PlaceAt, Place, ListsIrreducibles}
 use Rattle.monomial.specs.declared.Monomial.{Monomial}
 use Rattle.staircase.proofs.ArrayRows.{rows-length}
 use Rattle.staircase.proofs.LineElements.{stored-lines-length, line-at}
+use Rattle.staircase.proofs.LineLeads.{leads-length, leads-held}
 use Rattle.coordinates.specs.Vectors.{coordinate, indicator, coordinates_of}
 use Rattle.coordinates.specs.declared.Coordinates.{Coordinates}
 use Rattle.coordinates.proofs.UnitRows.{indicator-same, indicator-other}
@@ -111,30 +112,29 @@ module _ (b : StoredBasis) (l : List Monomial) (irreducibles : ListsIrreducibles
         (λ p. ap (residue b.p h) (indicator-other j k p) ∙ residue-zero b.p h
         ∙ sym (δ-other (residue-ring b.p h) (monomials n) (at j) x (λ f. p (listed-once j k (omega (arith, v, rows-length n l)) u (f ∙ sym here))))))
 
-    module _ (lines : b.lines ≤ length b.generators) (leads : List Monomial) (are : LeadsOf b leads) where
-      line : ℕ → Line (ZMod b.p) (Row n)
-      line g = line_of b.p h n (terms_in n (generator_at b g))
+    line : ℕ → Line (ZMod b.p) (Row n)
+    line g = line_of b.p h n (terms_in n (generator_at b g))
 
-      line-in : (g : ℕ) → g < b.lines → line g ∈ G
-      unfolding line
-      line-in g u = subst (λ f. f ∈ G) (line-at b h g u) (element-in (one n, []) G g (omega (arith, stored-lines-length b h lines)))
+    line-in : (g : ℕ) → g < length b.lines.items → line g ∈ G
+    unfolding line
+    line-in g u = subst (λ f. f ∈ G) (line-at b h g) (element-in (one n, []) G g (omega (arith, stored-lines-length b h)))
 
-      line_first : (g : ℕ) → g < b.lines → get_or (rows_of n leads) g (one n) ≡ (line g).0
-      unfolding line
-      line_first g u = ap (λ (L : List (Row n)). get_or L g (one n)) (are.1 h)
-          ∙ get_or-map (λ (f : Line (ZMod b.p) (Row n)). f.0) G g (one n, []) ∙ ap (λ (f : Line (ZMod b.p) (Row n)). f.0) (line-at b h g u)
+    line_first : (g : ℕ) → get_or (rows_of n (leads_in b)) g (one n) ≡ (line g).0
+    unfolding line
+    line_first g = ap (λ (L : List (Row n)). get_or L g (one n)) ((leads-held b).1 h)
+        ∙ get_or-map (λ (f : Line (ZMod b.p) (Row n)). f.0) G g (one n, []) ∙ ap (λ (f : Line (ZMod b.p) (Row n)). f.0) (line-at b h g)
 
-      pub row-tail : {k : ℕ} → PlaceAt n (rows_of n leads) x k → {w : Coordinates} → TailRow b.p n (generator_at b k) l w → RuleFor w
-      unfolding line
-      row-tail {k} place t = let u : k < b.lines = omega (arith, are.0, place.within, rows-length n leads) in
-          new_tail (line k) (line-in k u) (sym place.found ∙ line_first k u) (λ k v. t.coefficients h k (omega (arith, v, rows-length n l)))
+    pub row-tail : {k : ℕ} → PlaceAt n (rows_of n (leads_in b)) x k → {w : Coordinates} → TailRow b.p n (generator_at b k) l w → RuleFor w
+    unfolding line
+    row-tail {k} place t = let u : k < length b.lines.items = omega (arith, leads-length b, place.within, rows-length n (leads_in b)) in
+        new_tail (line k) (line-in k u) (sym place.found ∙ line_first k) (λ k v. t.coefficients h k (omega (arith, v, rows-length n l)))
 
-      pub no_lead : Place n (rows_of n leads) x None → (f : Line (ZMod b.p) (Row n)) → f ∈ G → ¬ (x ≡ f.0)
-      unfolding line
-      no_lead none f p q =
-          let (j, v, d) = place_of (one n, []) p in
-          let u : j < b.lines = omega (arith, v, stored-lines-length b h lines) in
-          none j (omega (arith, u, are.0, rows-length n leads)) (line_first j u ∙ ap (λ (f : Line (ZMod b.p) (Row n)). f.0) (sym (line-at b h j u) ∙ d) ∙ sym q)
+    pub no_lead : Place n (rows_of n (leads_in b)) x None → (f : Line (ZMod b.p) (Row n)) → f ∈ G → ¬ (x ≡ f.0)
+    unfolding line
+    no_lead none f p q =
+        let (j, v, d) = place_of (one n, []) p in
+        let u : j < length b.lines.items = omega (arith, v, stored-lines-length b h) in
+        none j (omega (arith, u, leads-length b, rows-length n (leads_in b))) (line_first j ∙ ap (λ (f : Line (ZMod b.p) (Row n)). f.0) (sym (line-at b h j) ∙ d) ∙ sym q)
 
     pub passes-some : i < n → s < length l → Reducible (monomials n) G x → ((f : Line (ZMod b.p) (Row n)) → f ∈ G → ¬ (x ≡ f.0)) → (j : ℕ) × (j < n) × Detour n l (at s) i j
     unfolding monomials
@@ -176,15 +176,15 @@ module _ (b : StoredBasis) (l : List Monomial) (irreducibles : ListsIrreducibles
         here = place.found
 
 -- The row that the code makes for x_i·B_s, by the place of the line that leads with it, or that there is none.
-module _ (b : StoredBasis) (sound : Sound b) (l : List Monomial) (irreducibles : ListsIrreducibles b l) (lines : b.lines ≤ length b.generators)
-    (leads : List Monomial) (are : LeadsOf b leads) (tables : Tables) (i s : ℕ) (hi : i < b.n) (hs : s < length l) where
+module _ (b : StoredBasis) (sound : Sound b) (l : List Monomial) (irreducibles : ListsIrreducibles b l)
+    (tables : Tables) (i s : ℕ) (hi : i < b.n) (hs : s < length l) where
   above_one : 1 < b.p
   above_one = sound.modulus.prime.above_one
 
-  pub comes-through : Place b.n (rows_of b.n leads) (product b.n (variable b.n i) (listed_at b.n l s)) None → Unlisted b.n l i s → Through b.n l i s
+  pub comes-through : Place b.n (rows_of b.n (leads_in b)) (product b.n (variable b.n i) (listed_at b.n l s)) None → Unlisted b.n l i s → Through b.n l i s
   comes-through none out = record {
     some = passes-some b l irreducibles above_one (cell_of b.p above_one tables) i s hi hs (reducible-outside b l irreducibles above_one _ out)
-        (no_lead b l irreducibles above_one (cell_of b.p above_one tables) i s lines leads are none);
+        (no_lead b l irreducibles above_one (cell_of b.p above_one tables) i s none);
     inside = λ j passes. divisor-listed b l irreducibles above_one i s hs j passes;
   }
 
@@ -195,6 +195,6 @@ module _ (b : StoredBasis) (sound : Sound b) (l : List Monomial) (irreducibles :
   pub row_made : {w : Coordinates} → MadeRow b.p b.n l tables i s w → RowFor b l tables i s w
   row_made m = record { below = m.below; rule = λ h. made-rule h m.made }
 
-  pub row-led : {k : ℕ} → PlaceAt b.n (rows_of b.n leads) (product b.n (variable b.n i) (listed_at b.n l s)) k → {w : Coordinates}
+  pub row-led : {k : ℕ} → PlaceAt b.n (rows_of b.n (leads_in b)) (product b.n (variable b.n i) (listed_at b.n l s)) k → {w : Coordinates}
       → TailRow b.p b.n (generator_at b k) l w → RowFor b l tables i s w
-  row-led place t = record { below = t.below; rule = λ h. row-tail b l irreducibles h (cell_of b.p h tables) i s lines leads are place t }
+  row-led place t = record { below = t.below; rule = λ h. row-tail b l irreducibles h (cell_of b.p h tables) i s place t }

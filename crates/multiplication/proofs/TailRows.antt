@@ -3,7 +3,7 @@
 --   subtracted-nowhere   there is none
 --   Gathered             the terms from k on are subtracted, at the places of any list that has the ranks
 --   gathered_none        at first none
---   gathered-small       the coefficient of the next term is below p
+--   gathered-small       the coefficient of the next term, as it is read, is below p
 --   gathered-more        one term more
 --   gathered-all         after the last
 use mathlib.Core.Path.{◌≡◌, refl, sym, ◌∙◌, ap, subst}
@@ -29,15 +29,16 @@ use Rattle.groebner.specs.Polynomials.{coef}
 use Rattle.groebner.proofs.Modules.{self, opposite-null, opposite-plus}
 use Rattle.groebner.proofs.Terms.{coef-nil, coef-here, coef-there}
 use Rattle.lines.specs.Sizes.{most_standard}
-use Rattle.lines.specs.declared.line.Generator.{Generator}
-use Rattle.staircase.specs.Sound.{SoundLine, coefficient_at}
+use Rattle.lines.specs.LineTerms.{coefficient_at, monomial_at}
+use Rattle.lines.specs.declared.line.LineTerm.{LineTerm}
+use Rattle.staircase.specs.Sound.{SoundLine}
 use Rattle.staircase.specs.Listed.{listed, listed_at, PlaceAt, Place}
 use Rattle.monomial.specs.declared.Monomial.{Monomial}
-use Rattle.staircase.proofs.ArrayRows.{no_monomial, rows-length}
+use Rattle.staircase.proofs.ArrayRows.{rows-length}
 use Rattle.coordinates.specs.Vectors.{coordinate, Below, coordinates_of}
 use Rattle.coordinates.specs.declared.Coordinates.{Coordinates}
 use Rattle.multiplication.specs.Tails.{Subtracted, TailRow, DistinctRanks}
-use Rattle.multiplication.proofs.TailTerms.{tail_of, term_at, tail-length, tail_from}
+use Rattle.multiplication.proofs.TailTerms.{term-read, tail_of, term_at, tail-length, tail_from}
 
 -- a - c, as residues.
 residue-difference : (p : ℕ) (h : 1 < p) (a c : ℕ) → c < p → residue p h (difference_mod p a c) ≡ (modulo p h).add (residue p h a) ((modulo p h).neg (residue p h c))
@@ -70,26 +71,23 @@ negative-sum : (p : ℕ) (h : 1 < p) (a b : ZMod p) → (modulo p h).add ((modul
 unfolding self
 negative-sum p h a b = (residue-ring p h).add_comm _ _ ∙ sym (opposite-plus (self (residue-ring p h)) a b)
 
-pub record Gathered (p n : ℕ) (g : Generator) (ranks : List ℕ) (r : Coordinates) (k : ℕ) : Type 0 where
+pub record Gathered (p n : ℕ) (g : List LineTerm) (ranks : List ℕ) (r : Coordinates) (k : ℕ) : Type 0 where
   pub some : 0 < k
-  pub within : k ≤ g.terms
+  pub within : k ≤ length g
   pub sound : SoundLine p n g
-  pub filled : g.terms ≤ length g.monomials
   pub below : Below p r
   pub coefficients : (l : List Monomial) → DistinctRanks n l ranks → (h : 1 < p) (j : ℕ) → j < length l
       → coordinates_of p h r j ≡ (modulo p h).neg (coef (modulo p h) (monomials n) (drop (k - 1) (tail_of p h n g)) (listed_at n l j))
 
-pub gathered_none : {p n : ℕ} {g : Generator} {ranks : List ℕ} {r : Coordinates} → 0 < p → SoundLine p n g → g.terms ≤ length g.monomials
-    → ((k : ℕ) → coordinate r k ≡ 0) → Gathered p n g ranks r g.terms
+pub gathered_none : {p n : ℕ} {g : List LineTerm} {ranks : List ℕ} {r : Coordinates} → 0 < p → SoundLine p n g → ((k : ℕ) → coordinate r k ≡ 0) → Gathered p n g ranks r (length g)
 unfolding coordinates_of
-gathered_none {p} {n} {g} {r = r} o s f z = record {
+gathered_none {p} {n} {g} {r = r} o s z = record {
   some = s.some;
   within = omega arith;
   sound = s;
-  filled = f;
   below = record { below = λ k. omega (arith, z k) };
   coefficients = λ l _ h j m. ap (residue p h) (z j) ∙ residue-zero p h
-      ∙ sym (ap (modulo p h).neg (ap (λ t. coef (modulo p h) (monomials n) t (listed_at n l j)) (drop_of_length-le (tail_of p h n g) {i = g.terms - 1} (omega (arith, tail-length p h n g s f)))
+      ∙ sym (ap (modulo p h).neg (ap (λ t. coef (modulo p h) (monomials n) t (listed_at n l j)) (drop_of_length-le (tail_of p h n g) {i = length g - 1} (omega (arith, tail-length p h n g)))
       ∙ coef-nil (residue-ring p h) (monomials n) _) ∙ negative-zero p h);
 }
 
@@ -102,26 +100,31 @@ option? (Some i) j = go (ℕ_discrete i j)
     go (yes e) = yes (ap Some e)
     go (no d) = no (λ e. d cc)
 
-module _ {p n : ℕ} {g : Generator} {ranks : List ℕ} {r : Coordinates} {k : ℕ} (so_far : Gathered p n g ranks r k) (more : 1 < k) where
-  pub gathered-small : (get_or g.coefficients (k - 1) (record { 0 = 0 })).0 < p
-  unfolding coefficient_at
-  gathered-small = (so_far.sound.coefficients (k - 1) (omega (arith, so_far.within))).1
+module _ {p n : ℕ} {g : List LineTerm} {ranks : List ℕ} {r : Coordinates} {k : ℕ} (so_far : Gathered p n g ranks r k) (more : 1 < k) where
+  inside : k - 1 < length g
+  inside = omega (arith, so_far.within)
 
-  pub gathered-more : {at : Option ℕ} {a : Coordinates}
-      → ((l : List Monomial) → DistinctRanks n l ranks → Place n (listed n l) (row n (get_or g.monomials (k - 1) no_monomial)) at)
-      → Subtracted p r (get_or g.coefficients (k - 1) (record { 0 = 0 })).0 at a → Gathered p n g ranks a (k - 1)
+  coefficient-small : coefficient_at g (k - 1) < p
+  coefficient-small = (so_far.sound.coefficients (k - 1) inside).1
+
+  -- The term at place k - 1, by what is read there.
+  pub gathered-small : (d : LineTerm) → (get_or g (k - 1) d).coefficient.0 < p
+  gathered-small d = rw (term-read g (k - 1) d inside).0 coefficient-small
+
+  one-more : {at : Option ℕ} {a : Coordinates}
+      → ((l : List Monomial) → DistinctRanks n l ranks → Place n (listed n l) (row n (monomial_at g (k - 1))) at)
+      → Subtracted p r (coefficient_at g (k - 1)) at a → Gathered p n g ranks a (k - 1)
   unfolding coordinates_of
-  gathered-more {at} {a} places sub = record {
+  one-more {at} {a} places sub = record {
     some = omega arith;
     within = omega (arith, so_far.within);
     sound = so_far.sound;
-    filled = so_far.filled;
     below = sub.below;
     coefficients = λ l d h j m. by_cases (option? at j) (here l d h j m) (other l d h j m);
   }
     where
       c : ℕ
-      c = (get_or g.coefficients (k - 1) (record { 0 = 0 })).0
+      c = coefficient_at g (k - 1)
 
       rest : (h : 1 < p) → List (ZMod p × Row n)
       rest h = drop (k - 1) (tail_of p h n g)
@@ -129,37 +132,44 @@ module _ {p n : ℕ} {g : Generator} {ranks : List ℕ} {r : Coordinates} {k : �
       step : (h : 1 < p) → drop (k - 1 - 1) (tail_of p h n g) ≡ term_at p h n g (k - 1) ∷ rest h
       step h = let e : suc (k - 1 - 1) ≡ k - 1 = omega arith in
           subst (λ i. drop (k - 1 - 1) (tail_of p h n g) ≡ term_at p h n g i ∷ drop i (tail_of p h n g)) e
-          (tail_from p h n g so_far.sound so_far.filled (k - 1 - 1) (omega (arith, so_far.within)))
+          (tail_from p h n g (k - 1 - 1) (omega (arith, so_far.within)))
 
       goal : (l : List Monomial) (h : 1 < p) (j : ℕ) → ZMod p → Type 0
       goal l h j x = x ≡ (modulo p h).neg (coef (modulo p h) (monomials n) (drop (k - 1 - 1) (tail_of p h n g)) (listed_at n l j))
 
       here : (l : List Monomial) → DistinctRanks n l ranks → (h : 1 < p) (j : ℕ) → j < length l → at ≡ Some j → goal l h j (coordinates_of p h a j)
       here l d h j m q =
-          let there : PlaceAt n (listed n l) (row n (get_or g.monomials (k - 1) no_monomial)) j = rw q at places l d in
-          let e : listed_at n l j ≡ row n (get_or g.monomials (k - 1) no_monomial) = there.found in
+          let there : PlaceAt n (listed n l) (row n (monomial_at g (k - 1))) j = rw q at places l d in
+          let e : listed_at n l j ≡ row n (monomial_at g (k - 1)) = there.found in
           let t : coordinate a j ≡ difference_mod p (coordinate r j) c = sub.there j q in
-          ap (residue p h) t ∙ residue-difference p h (coordinate r j) c gathered-small
+          ap (residue p h) t ∙ residue-difference p h (coordinate r j) c coefficient-small
           ∙ ap (λ x. (modulo p h).add x ((modulo p h).neg (residue p h c))) (so_far.coefficients l d h j m) ∙ negative-sum p h (residue p h c) _
           ∙ ap (modulo p h).neg (subst (λ x. (modulo p h).add (residue p h c) (coef (modulo p h) (monomials n) (rest h) x)
           ≡ coef (modulo p h) (monomials n) (term_at p h n g (k - 1) ∷ rest h) x) (sym e)
-          (sym (coef-here (residue-ring p h) (monomials n) (residue p h c) (row n (get_or g.monomials (k - 1) no_monomial)) (rest h)))
+          (sym (coef-here (residue-ring p h) (monomials n) (residue p h c) (row n (monomial_at g (k - 1))) (rest h)))
           ∙ ap (λ t. coef (modulo p h) (monomials n) t (listed_at n l j)) (sym (step h)))
 
       other : (l : List Monomial) → DistinctRanks n l ranks → (h : 1 < p) (j : ℕ) → j < length l → ¬ (at ≡ Some j) → goal l h j (coordinates_of p h a j)
       other l d h j m q = ap (residue p h) (sub.elsewhere j q) ∙ so_far.coefficients l d h j m
           ∙ ap (modulo p h).neg (sym (ap (λ t. coef (modulo p h) (monomials n) t (listed_at n l j)) (step h) ∙ coef-there (residue-ring p h) (monomials n) _ (rest h) (listed_at n l j) differs))
         where
-          differs : ¬ (listed_at n l j ≡ row n (get_or g.monomials (k - 1) no_monomial))
+          differs : ¬ (listed_at n l j ≡ row n (monomial_at g (k - 1)))
           differs e = go at refl
             where
               go : (o : Option ℕ) → at ≡ o → ⊥
               go None is = (rw is at places l d) j (omega (arith, m, rows-length n l)) e
               go (Some i) is =
-                  let there : PlaceAt n (listed n l) (row n (get_or g.monomials (k - 1) no_monomial)) i = rw is at places l d in
+                  let there : PlaceAt n (listed n l) (row n (monomial_at g (k - 1))) i = rw is at places l d in
                   q (is ∙ ap Some (sym (d.once j i m (omega (arith, there.within, rows-length n l)) (e ∙ sym there.found))))
 
-pub gathered-all : {p n : ℕ} {g : Generator} {ranks : List ℕ} {r : Coordinates} {k : ℕ} → Gathered p n g ranks r k → k ≤ 1
+  pub gathered-more : (d : LineTerm) {at : Option ℕ} {a : Coordinates}
+      → ((l : List Monomial) → DistinctRanks n l ranks → Place n (listed n l) (row n (get_or g (k - 1) d).monomial) at)
+      → Subtracted p r (get_or g (k - 1) d).coefficient.0 at a → Gathered p n g ranks a (k - 1)
+  gathered-more d {at} {a} places sub =
+      let (c, m) = term-read g (k - 1) d inside in
+      one-more (λ l e. rw m at places l e) (rw c at sub)
+
+pub gathered-all : {p n : ℕ} {g : List LineTerm} {ranks : List ℕ} {r : Coordinates} {k : ℕ} → Gathered p n g ranks r k → k ≤ 1
     → (l : List Monomial) → DistinctRanks n l ranks → TailRow p n g l r
 gathered-all {k = k} so_far h l d =
     let e : k - 1 ≡ 0 = omega arith in

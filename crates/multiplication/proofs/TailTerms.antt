@@ -1,73 +1,58 @@
 -- The tail of a line of the code, term by term.
 --   tail_of p h n g     the tail of the line g
 --   term_at p h n g k   term k of the line g
+--   term-read           a term that is read at a place, whatever stands past the end of a line
 --   tail-length         it has one term less than the line
---   tail_at             term k of it is term k + 1 of the line
 --   tail_from           the tail from term k on begins with that term
 use mathlib.Core.Path.{◌≡◌, refl, ◌∙◌, ap}
-use mathlib.Core.List.{List, [], ◌∷◌}
-use Prim.Native.Nat.{ℕ, zero, suc, ◌-◌, ◌≤◌, ◌<◌}
+use mathlib.Core.List.{List, [], ◌∷◌, map}
+use Prim.Native.Nat.{ℕ, suc, ◌-◌, ◌<◌}
 use native.Mathlib.Omega.{arith}
-use lib.ListN.{length, get_or, take, drop, length-map, get_or-map, length-take}
-use lib.Seq.{drop-cons, get_or-take}
+use lib.ListN.{length, get_or, drop, length-map, get_or-map}
+use lib.Seq.{drop-cons}
+use Rattle.std.proofs.lemmas.List.{get_or_default}
 use Rattle.residue.specs.Field.{ZMod, residue}
-use Rattle.residue.specs.declared.Residue.{Residue}
 use Rattle.monomial.specs.Rows.{Row}
 use Rattle.monomial.specs.Represented.{row}
-use Rattle.monomial.specs.declared.Monomial.{Monomial}
 use Rattle.groebner.specs.Polynomials.{Poly}
-use Rattle.lines.specs.Terms.{Term, as_row}
-use Rattle.lines.specs.LineTerms.{exponents_of, terms_of, terms_in}
-use Rattle.lines.specs.declared.line.Generator.{Generator}
+use Rattle.lines.specs.LineTerms.{term_of, terms_in, no_term, coefficient_at, monomial_at}
+use Rattle.lines.specs.declared.line.LineTerm.{LineTerm}
 use Rattle.lines.proofs.AsRow.{as_row-exponents}
 use Rattle.staircase.specs.TermLines.{line_of}
-use Rattle.staircase.specs.Sound.{SoundLine}
-use Rattle.staircase.proofs.ArrayRows.{no_monomial}
-use Rattle.staircase.proofs.LineElements.{enough-coefficients, terms-length}
 
-terms-at : (n : ℕ) (cs : List Residue) (ms : List Monomial) (k : ℕ) (d : Term) → k < length (terms_of n cs ms)
-    → get_or (terms_of n cs ms) k d ≡ ((get_or cs k (record { 0 = 0 })).0, exponents_of n (get_or ms k no_monomial))
-unfolding terms_of
-terms-at n [] ms k d h = absurd (omega arith)
-terms-at n (c ∷ cs) [] k d h = absurd (omega arith)
-terms-at n (c ∷ cs) (m ∷ ms) zero d h = refl
-terms-at n (c ∷ cs) (m ∷ ms) (suc k) d h = terms-at n cs ms k d (omega arith)
+pub term-read : (g : List LineTerm) (k : ℕ) (d : LineTerm) → k < length g → ((get_or g k d).coefficient.0 ≡ coefficient_at g k) × ((get_or g k d).monomial ≡ monomial_at g k)
+unfolding coefficient_at monomial_at
+term-read g k d l =
+    let e : get_or g k d ≡ get_or g k no_term = get_or_default g k d no_term l in
+    (ap (λ (t : LineTerm). t.coefficient.0) e, ap (λ (t : LineTerm). t.monomial) e)
 
 module _ (p : ℕ) (h : 1 < p) (n : ℕ) where
-  -- A term of a text, as a term of a polynomial.
-  abbrev as_term : Term → ZMod p × Row n
-  as_term u = (residue p h u.0, as_row n u.1)
-
-  generator-at : (ts : List Term) (k : ℕ) (d : Term) → get_or (line_of p h n ts).1 k (as_term d) ≡ as_term (get_or ts (suc k) d)
-  unfolding line_of
-  generator-at [] k d = refl
-  generator-at (t ∷ ts) k d = get_or-map as_term ts k d
-
-  generator-length : (ts : List Term) → length (line_of p h n ts).1 ≡ length ts - 1
-  unfolding line_of
-  generator-length [] = refl
-  generator-length (t ∷ ts) = length-map ts _ ∙ omega arith
+  -- A term of a line, as a term of a polynomial.
+  abbrev as_term : LineTerm → ZMod p × Row n
+  as_term t = (residue p h t.coefficient.0, row n t.monomial)
 
   -- The tail.
-  abbrev pub tail_of : Generator → Poly (ZMod p) (Row n)
+  abbrev pub tail_of : List LineTerm → Poly (ZMod p) (Row n)
   tail_of g = (line_of p h n (terms_in n g)).1
 
   -- Term k of the line.
-  abbrev pub term_at : Generator → ℕ → ZMod p × Row n
-  term_at g k = (residue p h (get_or g.coefficients k (record { 0 = 0 })).0, row n (get_or g.monomials k no_monomial))
+  abbrev pub term_at : List LineTerm → ℕ → ZMod p × Row n
+  term_at g k = (residue p h (coefficient_at g k), row n (monomial_at g k))
 
-  module _ (g : Generator) (s : SoundLine p n g) (filled : g.terms ≤ length g.monomials) where
-    pub tail-length : length (tail_of g) ≡ g.terms - 1
-    tail-length = generator-length (terms_in n g) ∙ ap (◌- 1) (terms-length n g (enough-coefficients p n g s) filled)
+  tail-terms : (t : LineTerm) (g : List LineTerm) → tail_of (t ∷ g) ≡ map as_term g
+  unfolding line_of terms_in term_of
+  tail-terms t [] = refl
+  tail-terms t (u ∷ g) = λ i. (residue p h u.coefficient.0, as_row-exponents n u.monomial i) ∷ tail-terms t g i
 
-    pub tail_at : (k : ℕ) → suc k < g.terms → get_or (tail_of g) k (as_term (0, [])) ≡ term_at g (suc k)
-    unfolding terms_in
-    tail_at k l =
-        let all : List Term = terms_of n g.coefficients g.monomials in
-        let size : length (take g.terms all) ≡ g.terms = terms-length n g (enough-coefficients p n g s) filled in
-        generator-at (terms_in n g) k (0, [])
-        ∙ ap as_term (get_or-take g.terms all (suc k) (0, []) l ∙ terms-at n g.coefficients g.monomials (suc k) (0, []) (omega (arith, size, length-take g.terms all)))
-        ∙ ap (λ a. (residue p h (get_or g.coefficients (suc k) (record { 0 = 0 })).0, a)) (as_row-exponents n _)
+  pub tail-length : (g : List LineTerm) → length (tail_of g) ≡ length g - 1
+  unfolding line_of terms_in
+  tail-length [] = refl
+  tail-length (t ∷ g) = ap length (tail-terms t g) ∙ length-map g as_term ∙ omega arith
 
-    pub tail_from : (k : ℕ) → suc k < g.terms → drop k (tail_of g) ≡ term_at g (suc k) ∷ drop (suc k) (tail_of g)
-    tail_from k l = drop-cons (tail_of g) k (as_term (0, [])) (omega (arith, tail-length)) ∙ ap (λ t. t ∷ drop (suc k) (tail_of g)) (tail_at k l)
+  tail_at : (g : List LineTerm) (k : ℕ) → suc k < length g → get_or (tail_of g) k (as_term no_term) ≡ term_at g (suc k)
+  unfolding coefficient_at monomial_at
+  tail_at [] k l = absurd (omega arith)
+  tail_at (t ∷ g) k l = ap (λ (f : Poly (ZMod p) (Row n)). get_or f k (as_term no_term)) (tail-terms t g) ∙ get_or-map as_term g k no_term
+
+  pub tail_from : (g : List LineTerm) (k : ℕ) → suc k < length g → drop k (tail_of g) ≡ term_at g (suc k) ∷ drop (suc k) (tail_of g)
+  tail_from g k l = drop-cons (tail_of g) k (as_term no_term) (omega (arith, tail-length g)) ∙ ap (λ t. t ∷ drop (suc k) (tail_of g)) (tail_at g k l)

@@ -1,4 +1,4 @@
-// The test of check 15: whether the rows of the products typeof.x_i.B_s commute.
+// The test of check 15: whether the rows of the products x_i·B_s commute.
 ghost use Rattle.std.specs.Prelude.{◌≡◌, true, ◌↔◌, ℕ, ◌<◌, ◌≤◌};
 ghost use Rattle.residue.specs.Field.{modulo};
 ghost use Rattle.monomial.specs.Sizes.{most_variables};
@@ -12,7 +12,7 @@ use coordinates::vectors::same_coordinates;
 use monomial::count::Variables;
 use residue::field::PrimeField;
 
-// Whether x_i·(typeof.x_j.B_s) and x_j·(typeof.x_i.B_s) have the same coordinates.
+// Whether x_i·(x_j·B_s) and x_j·(x_i·B_s) have the same coordinates.
 fn commute_at(
     cells: &[u16],
     i: usize,

@@ -1,4 +1,4 @@
-// Check 15: whether the lines of a basis are a Groebner basis, by the rows of the products typeof.x_i.B_s.
+// Check 15: whether the lines of a basis are a Groebner basis, by the rows of the products x_i·B_s.
 ghost use Rattle.std.specs.Prelude.{◌≡◌, length};
 ghost use Rattle.multiplication.specs.Rows.{most_cells, NoRows, tables_of};
 ghost use Rattle.multiplication.specs.Criterion.{Candidate, Acceptance};
@@ -11,11 +11,7 @@ use residue::field::PrimeField;
 
 // Whether the lines are a Groebner basis; the rows are left in the lent cells. The irreducible monomials stand in rising grevlex order.
 // As many lines as variables have coprime leading monomials, and are a Groebner basis.
-pub fn is_groebner(
-    cells: &mut [u16],
-    basis: &StoredBasis,
-    irreducibles: &[Monomial],
-) -> bool
+pub fn is_groebner(cells: &mut [u16], basis: &StoredBasis, irreducibles: &[Monomial]) -> bool
     requires { NoRows cells.old × Candidate basis.now irreducibles.now }
     ensures { (length cells.new ≡ most_cells) × Acceptance basis.now irreducibles.now result (tables_of cells.new) }
 {

@@ -1,4 +1,4 @@
-// The rows of the products typeof.x_i.B_s, filled in rising grevlex order of these products, B the irreducible monomials.
+// The rows of the products x_i·B_s, filled in rising grevlex order of these products, B the irreducible monomials.
 ghost use Rattle.std.specs.Prelude.{◌≡◌, ℕ, true, ◌↔◌, ◌≤◌, ◌<◌, List, length, get_or};
 ghost use Rattle.residue.specs.Prime.{largest_modulus};
 ghost use Rattle.monomial.specs.Sizes.{most_variables};
@@ -64,7 +64,13 @@ fn is_detour(ranks: &[u64], e: Exponent, wanted: u64, x: u64) -> bool
 }
 
 // The first x_j that divides m with w less its rank no rank of the list, of which there is one.
-fn variable_through(ranks: &[u64], variables: &[u64], m: Monomial, wanted: u64, n: Variables) -> usize
+fn variable_through(
+    ranks: &[u64],
+    variables: &[u64],
+    m: Monomial,
+    wanted: u64,
+    n: Variables,
+) -> usize
     requires { (n ≤ length variables.now) × RisingRanks ranks.now (length ranks.now)
         × SomePasses n (row n m) ranks.now variables.now wanted }
     ensures { (result < n) × PassesBy ranks.now (exponent n (row n m) result) wanted (get_or variables.now result 0) }
@@ -78,7 +84,7 @@ fn variable_through(ranks: &[u64], variables: &[u64], m: Monomial, wanted: u64, 
     unreachable!()
 }
 
-// The row of typeof.x_i.B_s of rank w, which is neither listed nor a leading monomial: with B_s = x_j·c and x_i·c reducible it is x_j times the row of x_i·c.
+// The row of x_i·B_s of rank w, which is neither listed nor a leading monomial: with B_s = x_j·c and x_i·c reducible it is x_j times the row of x_i·c.
 fn product_row(
     cells: &[u16],
     ranks: &[u64],
@@ -101,7 +107,7 @@ fn product_row(
     times_variable(cells, j, row, irreducibles.len(), field)
 }
 
-// The row of typeof.x_i.B_s of rank w, which is no leading monomial: a unit row if it is listed, and otherwise a product.
+// The row of x_i·B_s of rank w, which is no leading monomial: a unit row if it is listed, and otherwise a product.
 fn row_for(
     cells: &[u16],
     ranks: &[u64],
@@ -139,7 +145,8 @@ pub struct Cursors {
     pub at: [usize; MAX_VARIABLES],
 }
 
-// The rank of typeof.x_i.B_s, where x is that of x_i, or 0 where the list has no B_s.
+// The rank of x_i·B_s, where x is that of x_i, or 0 where the list has no B_s: in the array of which `fill` takes the least rank, 0, below every
+// rank, says that there is no product.
 fn product_rank(ranks: &[u64], x: u64, place: usize) -> u64
     requires { Bounded ranks.now (length ranks.now) × (x < above_ranks) }
     ensures { ProductRank ranks.now x place result }
@@ -147,7 +154,7 @@ fn product_rank(ranks: &[u64], x: u64, place: usize) -> u64
     ranks.get(place).map_or(0, |r| x + *r)
 }
 
-// The ranks of the products typeof.x_i.B_0.
+// The ranks of the products x_i·B_0.
 fn put_first_ranks(next: &mut [u64], ranks: &[u64], variables: &[u64], n: Variables)
     requires { (length next.old ≡ most_variables) × (n ≤ length variables.now) × Bounded variables.now n × Bounded ranks.now (length ranks.now) }
     ensures { FirstRanks ranks.now variables.now n next.new }
@@ -182,17 +189,7 @@ pub fn fill(cells: &mut [u16], basis: &StoredBasis, irreducibles: &[Monomial])
                 let g = &basis.lines[k];
                 tail_row(&ranks, g, n, basis.p)
             }
-            None => row_for(
-                &*cells,
-                &ranks,
-                &variables,
-                irreducibles,
-                w,
-                i,
-                s,
-                n,
-                field,
-            ),
+            None => row_for(&*cells, &ranks, &variables, irreducibles, w, i, s, n, field),
         };
         put_row(&mut *cells, row_start(i, s), row);
         c.at[i] = s + 1;

@@ -1,4 +1,4 @@
-// The places of the rows of the products typeof.x_i.B_s, and what these rows make of coordinates in the irreducible monomials B.
+// The places of the rows of the products x_i·B_s, and what these rows make of coordinates in the irreducible monomials B.
 ghost use Rattle.std.specs.Prelude.{◌≡◌, ◌<◌, ◌≤◌};
 ghost use Rattle.monomial.specs.Sizes.{most_variables};
 ghost use Rattle.lines.specs.Sizes.{most_standard};
@@ -12,11 +12,11 @@ use lines::sizes::MAX_STANDARD;
 use monomial::MAX_VARIABLES;
 use residue::field::PrimeField;
 
-// The coefficients of all rows: one row for each variable and each irreducible monomial. Coefficient k of the row of typeof.x_i.B_s stands at
+// The coefficients of all rows: one row for each variable and each irreducible monomial. Coefficient k of the row of x_i·B_s stands at
 // place (i * MAX_STANDARD + s) * MAX_STANDARD + k of the lent cells.
 pub const MAX_CELLS: usize = MAX_VARIABLES * MAX_STANDARD * MAX_STANDARD;
 
-// The place of the first coefficient of the row of typeof.x_i.B_s.
+// The place of the first coefficient of the row of x_i·B_s.
 pub fn row_start(i: usize, place: usize) -> usize
     requires { (i < most_variables) × (place < most_standard) }
     ensures { result ≡ row_start i place }

@@ -1,57 +1,38 @@
 -- `fill` meets its contract. The loop's invariant: the rows below the cursors are filled, and the ranks of the next products are held.
-use mathlib.Core.Path.{◌≡◌, refl, sym, ◌∙◌, subst}
-use Prim.Native.Nat.{ℕ, ◌<◌}
-use lib.ListN.{length, get_or, replicate}
+use mathlib.Core.Path.{refl, sym, ◌∙◌, subst}
+use Prim.Native.Nat.{◌<◌}
+use lib.ListN.{length, get_or, take, replicate}
 use native.Mathlib.Omega.{arith}
-use borrow.Author.Rules.{rules}
 use Rattle.lists.proofs.Storing.{zeros-at}
 use Rattle.std.proofs.lemmas.List.{length-take-le}
 use Rattle.monomial.specs.Sizes.{most_variables}
-use Rattle.monomial.specs.Ranks.{FirstRank}
+use Rattle.monomial.specs.Ranks.{FirstRank, NextRank}
 use Rattle.monomial.proofs.RankPlaces.{variables-bounded}
-use Rattle.lines.specs.Sizes.{most_standard, most_lines}
-use Rattle.lines.specs.Stored.{line_in}
-use Rattle.lines.specs.Bases.{StoredBasis, basis_in}
-use Rattle.lines.specs.declared.line.Generator.{Generator}
-use Rattle.staircase.specs.Sound.{generator_at, SoundLine}
-use Rattle.staircase.proofs.StoredBasis.{held-line, held-filled, held-leads}
+use Rattle.lines.specs.Sizes.{most_standard}
+use Rattle.staircase.proofs.LineElements.{generator-read}
 use Rattle.multiplication.specs.Rows.{tables_of}
-use Rattle.multiplication.specs.Tails.{TailRow}
 use Rattle.multiplication.proofs.NewRows.{RowFor}
 use Rattle.multiplication.proofs.NextProducts.{cursor, Nexts, nexts-first}
 use Rattle.multiplication.proofs.AllRows.{no-rows-length, room-less}
 use Rattle.multiplication.proofs.FillLoop.{Prepared, prepared, fill_start, fill-bounded, fill-inside, fill-place, fill-product, fill-line, fill-led, fill-distinct, all-bounded, fill-through, fill-made, fill-turn, fill_stop}
-use Rattle.multiplication.proofs.fill.fill.Goals.{After-put_first_ranks, After-rank_place, After-put_variable_ranks, In-Some, In-Some-rank_place, Joined-rank_place, Start, in-None, in-Some-rank_place}
+use Rattle.multiplication.proofs.fill.fill.Goals.{After-put_first_ranks, After-next_place, After-rank_place, After-put_variable_ranks, In-Some, In-Some-rank_place, Joined-rank_place, Start, in-None, in-Some-rank_place}
 use Rattle.multiplication.proofs.fill.fill.Goals as goal
 
--- The basis that is lent.
-abbrev lent : Start → StoredBasis
-lent c = basis_in c.args.shape c.args.counts.now c.args.coefficients.now c.args.exponents.now
-
 -- What is known when the loop begins.
-known : (c : After-put_variable_ranks) → Prepared (lent (goal.at.After-put_variable_ranks c).Start) c.args.irreducibles.now c.ranks_of-ranks.result.items c.put_variable_ranks.new.ranks c.ranks_of-lead_ranks.result.items
-known c =
-    let given = c.requires.1.basis in
-    prepared _ given (held-filled _ _ _ _ given.sound).lines c.ranks_of-ranks.ensures c.put_variable_ranks.ensures (held-leads _ _ _ _ given.sound _ c.leads_of-leads.ensures) (rw c.deref.ensures.0 at c.ranks_of-lead_ranks.ensures)
+known : (c : After-put_variable_ranks) → Prepared c.args.basis.now c.args.irreducibles.now c.ranks_of-ranks.result.items c.put_variable_ranks.new.ranks c.ranks_of-lead_ranks.result.items
+known c = prepared c.requires.1 c.ranks_of-ranks.ensures c.put_variable_ranks.ensures (rw (c.deref.ensures.0, c.leads_of-leads.ensures) at c.ranks_of-lead_ranks.ensures)
 
 pub new-field-requires : goal.new-field-requires
-new-field-requires c = c.requires.1.basis.sound.modulus
-
-pub leads_of-leads-requires : goal.leads_of-leads-requires
-leads_of-leads-requires c = let stored = c.requires.1 in (stored.basis.sound.few, stored.arrays.exponents)
-
-pub put_variable_ranks-requires : goal.put_variable_ranks-requires
-put_variable_ranks-requires c = (c.requires.1.basis.sound.variables.most, search rules)
+new-field-requires c = c.requires.1.sound.modulus
 
 pub put_first_ranks-requires : goal.put_first_ranks-requires
 put_first_ranks-requires c =
     let ranked = (known (goal.at.put_first_ranks-requires c).After-put_variable_ranks).ranked in
-    let n = ranked.listing.variables in
-    (search rules, n, ranked.variables.many, variables-bounded _ n ranked.variables, rw c.deref-2.ensures.0 (all-bounded ranked))
+    (refl, ranked.variables.many, variables-bounded _ ranked.listing.variables ranked.variables, rw c.deref-2.ensures.0 (all-bounded ranked))
 
 -- The ranks of the first products.
 firsts : (c : After-put_first_ranks) → let a = c.args in
-    Nexts a.shape.n a.irreducibles.now (record { at = replicate most_variables 0 }) c.put_first_ranks.new.next
+    Nexts a.basis.now.n a.irreducibles.now (record { at = replicate most_variables 0 }) c.put_first_ranks.new.next
 firsts c =
     let ranked = (known (goal.at.After-put_first_ranks c).After-put_variable_ranks).ranked in
     nexts-first _ _ ranked.size ranked.ranks ranked.variables (λ i. zeros-at most_variables i 0) (rw c.deref-2.ensures.0 at c.put_first_ranks.ensures)
@@ -65,11 +46,15 @@ slice_bounds-next_place-end c =
     sym (length-take-le _ _ (omega (arith, inv.nexts.size, inv.known.ranked.listing.variables)))
 
 pub next_place-requires : goal.next_place-requires
-next_place-requires c = fill-bounded c.loop-i.invariant
+next_place-requires c = rw c.count.ensures.value (fill-bounded c.loop-i.invariant)
+
+-- The place of the least of the ranks.
+least : (c : After-next_place) → let front = take c.args.basis.now.n c.loop-i.next in NextRank front 1 c.next_place.result (length front)
+least c = rw c.count.ensures.value at c.next_place.ensures
 
 -- The variable and the place of the row that is filled.
-bounds : (c : In-Some) → let i = c.in-Some.i in (i < c.args.shape.n) × (i < most_variables) × (cursor c.loop-i.c i < most_standard)
-bounds c = fill-place c.loop-i.invariant c.next_place.ensures c.in-Some.is
+bounds : (c : In-Some) → let i = c.in-Some.i in (i < c.args.basis.now.n) × (i < most_variables) × (cursor c.loop-i.c i < most_standard)
+bounds c = fill-place c.loop-i.invariant (least (goal.at.In-Some c).After-next_place) c.in-Some.is
 
 pub offset_bounds-c-i : goal.offset_bounds-c-i
 offset_bounds-c-i c = omega (arith, bounds c)
@@ -88,35 +73,27 @@ found : (c : After-rank_place) → let gs = c.ranks_of-lead_ranks.result.items i
 found c = rw c.deref-in-Some.ensures.0 at c.rank_place.ensures
 
 -- The line that leads with the product is one of the basis.
-led : (c : In-Some-rank_place) → c.in-Some-rank_place.k < c.args.shape.lines
-led c = fill-line c.loop-i.invariant c.next_place.ensures c.in-Some.is (found (goal.at.In-Some-rank_place c).After-rank_place) c.in-Some-rank_place.is
+led : (c : In-Some-rank_place) → c.in-Some-rank_place.k < length c.args.basis.now.lines.items
+led c = fill-line c.loop-i.invariant (least (goal.at.In-Some-rank_place c).After-next_place) c.in-Some.is (found (goal.at.In-Some-rank_place c).After-rank_place) c.in-Some-rank_place.is
 
-few : (c : In-Some-rank_place) → c.in-Some-rank_place.k < most_lines
-few c = omega (arith, led c, c.loop-i.invariant.known.given.sound.few)
+pub offset_bounds-deref-k : goal.offset_bounds-deref-k
+offset_bounds-deref-k c = omega (arith, led (goal.at.offset_bounds-deref-k c).In-Some-rank_place, c.loop-i.invariant.known.given.sound.few)
 
--- The line that is read.
-line-is : (c : Start) (k : ℕ) → k < most_lines → (g : Generator) → let a = c.args in
-    g ≡ line_in a.counts.now a.coefficients.now a.exponents.now k → g ≡ generator_at (lent c) k
-line-is c k h g e = e ∙ sym (held-line _ _ _ _ _ h)
-
-pub line_at-g-requires : goal.line_at-g-requires
-line_at-g-requires c = (few c, c.requires.1.arrays)
+pub bounds-deref-k : goal.bounds-deref-k
+bounds-deref-k c = rw c.deref-in-Some-rank_place.ensures.0 (led (goal.at.bounds-deref-k c).In-Some-rank_place)
 
 pub tail_row-row-requires : goal.tail_row-row-requires
 tail_row-row-requires c =
-    let a = c.args in
     let k = c.loop-i.invariant.known in
-    let sound = k.given.sound in (
-      subst (SoundLine a.shape.p a.shape.n) (sym (line-is (goal.at.tail_row-row-requires c).Start _ (few (goal.at.tail_row-row-requires c).In-Some-rank_place) _ c.line_at-g.ensures)) (sound.lines _ (led (goal.at.tail_row-row-requires c).In-Some-rank_place)),
-      sound.variables.most,
-      rw c.deref-in-Some-rank_place.ensures.0 (omega (arith, k.ranked.size, k.given.irreducibles.few)),
-      sound.modulus.size,
-    )
+    let sound = k.given.sound in
+    let at = led (goal.at.tail_row-row-requires c).In-Some-rank_place in
+    let read = generator-read c.args.basis.now _ c.deref-in-Some-rank_place.ensures.0 (rw c.deref-in-Some-rank_place.ensures.0 at) c.index-deref-k.is c.deref-in-Some-rank_place-3.ensures.0 in
+    (rw read (sound.lines _ at), rw c.deref-in-Some-rank_place-2.ensures.0 (omega (arith, k.ranked.size, k.given.irreducibles.few)), sound.modulus.size)
 
 pub row_for-row-requires : goal.row_for-row-requires
 row_for-row-requires c =
     let inv = c.loop-i.invariant in
-    let next = c.next_place.ensures in
+    let next = (least (goal.at.row_for-row-requires c).After-next_place) in
     let is = c.in-Some.is in (
       rw c.new-field.ensures inv.filling.stored,
       rw c.deref-in-None.ensures.0 inv.known.ranked,
@@ -125,19 +102,20 @@ row_for-row-requires c =
     )
 
 -- The row that is stored.
-row : (c : Joined-rank_place) → RowFor (lent (goal.at.Joined-rank_place c).Start) c.args.irreducibles.now (tables_of c.loop-i.cells) c.in-Some.i (cursor c.loop-i.c c.in-Some.i) c.match-rank_place.row
+row : (c : Joined-rank_place) → RowFor c.args.basis.now c.args.irreducibles.now (tables_of c.loop-i.cells) c.in-Some.i (cursor c.loop-i.c c.in-Some.i) c.match-rank_place.row
 row c =
     let inv = c.loop-i.invariant in
-    let next = c.next_place.ensures in
+    let next = (least (goal.at.Joined-rank_place c).After-next_place) in
     let some = c.in-Some.is in
     let place = found (goal.at.Joined-rank_place c).After-rank_place in
-    let is = RowFor (lent (goal.at.Joined-rank_place c).Start) c.args.irreducibles.now (tables_of c.loop-i.cells) c.in-Some.i (cursor c.loop-i.c c.in-Some.i) in
+    let is = RowFor c.args.basis.now c.args.irreducibles.now (tables_of c.loop-i.cells) c.in-Some.i (cursor c.loop-i.c c.in-Some.i) in
     elim c.match-rank_place.branch [
       | in-Some-rank_place w ↦
           let s = w.in-Some-rank_place.is in
+          let at = fill-line inv next some place s in
+          let read = generator-read c.args.basis.now _ w.deref-in-Some-rank_place.ensures.0 (rw w.deref-in-Some-rank_place.ensures.0 at) w.index-deref-k.is w.deref-in-Some-rank_place-3.ensures.0 in
           subst is (sym w.row-is)
-          (fill-led inv next some place s
-          (subst (λ g. TailRow c.args.shape.p c.args.shape.n g c.args.irreducibles.now w.tail_row-row.result) (line-is (goal.at.Joined-rank_place c).Start _ (omega (arith, fill-line inv next some place s, inv.known.given.sound.few)) _ w.line_at-g.ensures) ((rw w.deref-in-Some-rank_place.ensures.0 at w.tail_row-row.ensures) _ (fill-distinct inv))))
+          (fill-led inv next some place s (rw read at ((rw w.deref-in-Some-rank_place-2.ensures.0 at w.tail_row-row.ensures) _ (fill-distinct inv))))
       | in-None w ↦ subst is (sym w.row-is) (fill-made inv next some place w.in-None.is (rw c.new-field.ensures at w.row_for-row.ensures))
     ]
 
@@ -180,14 +158,14 @@ bounds-next-i-in-Some c = omega (arith, bounds (goal.at.bounds-next-i-in-Some c)
 pub loop-i-smaller : goal.loop-i-smaller
 loop-i-smaller c =
     let inv = c.loop-i.invariant in
-    room-less _ _ _ (omega (arith, inv.filling.cursors, bounds (goal.at.loop-i-smaller c).In-Some)) (fill-inside inv c.next_place.ensures c.in-Some.is)
+    room-less _ _ _ (omega (arith, inv.filling.cursors, bounds (goal.at.loop-i-smaller c).In-Some)) (fill-inside inv (least (goal.at.loop-i-smaller c).After-next_place) c.in-Some.is)
 
 pub loop-i-preserved : goal.loop-i-preserved
 loop-i-preserved c =
-    fill-turn c.loop-i.invariant c.next_place.ensures c.in-Some.is (rw c.deref-in-Some-2.ensures.0 at c.product_rank.ensures) (row (goal.at.loop-i-preserved c).Joined-rank_place) (rw c.row_start.ensures at c.put_row.ensures)
+    fill-turn c.loop-i.invariant (least (goal.at.loop-i-preserved c).After-next_place) c.in-Some.is (rw c.deref-in-Some-2.ensures.0 at c.product_rank.ensures) (row (goal.at.loop-i-preserved c).Joined-rank_place) (rw c.row_start.ensures at c.put_row.ensures)
 
 pub shape_of-cells : goal.shape_of-cells
 shape_of-cells c = c.loop-i.invariant.filling.stored.size ∙ sym (no-rows-length c.requires.0)
 
 pub returns : goal.returns
-returns c = fill_stop c.loop-i.invariant c.next_place.ensures c.in_default.is
+returns c = fill_stop c.loop-i.invariant (least (goal.at.returns c).After-next_place) c.in_default.is

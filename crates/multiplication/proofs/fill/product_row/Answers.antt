@@ -53,7 +53,7 @@ inside c =
 pub variable_through-j-requires : goal.variable_through-j-requires
 variable_through-j-requires c =
     let (_, ranked, of, through) = c.requires in
-    (ranked.variables.many, ranked.listing.variables, ranked.rising, rw (rows_at c.args.n c.args.irreducibles.now c.args.place) at (some-passes ranked of through))
+    (ranked.variables.many, ranked.rising, rw (rows_at c.args.n c.args.irreducibles.now c.args.place) at (some-passes ranked of through))
 
 pub bounds-ranks-place : goal.bounds-ranks-place
 bounds-ranks-place c = let (_, ranked, of, _) = c.requires in omega (arith, ranked.ranks.many, of.inside)

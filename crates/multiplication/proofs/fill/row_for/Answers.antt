@@ -9,7 +9,6 @@ use Rattle.monomial.specs.Rows.{product}
 use Rattle.monomial.specs.Quotients.{variable}
 use Rattle.staircase.specs.Listed.{listed, listed_at, PlaceAt, Place}
 use Rattle.staircase.proofs.ArrayRows.{rows-length}
-use Rattle.coordinates.proofs.UnitRows.{indicator-below}
 use Rattle.multiplication.specs.Rules.MadeBy.{by_unit, by_product}
 use Rattle.multiplication.proofs.ListPlaces.{list-place}
 use Rattle.multiplication.proofs.RankQuotients.{product-short, product-greater}
@@ -44,17 +43,14 @@ place_after-requires c =
           (λ u. subst (λ j. get_or ranks j 0 < c.args.wanted) (omega (arith, h, u)) above),
     )
 
-pub unit-requires : goal.unit-requires
-unit-requires c =
-    let (_, ranked, _, _) = c.requires in
-    omega (arith, (placed (goal.at.unit-requires c).In-Some).within, rows-length c.args.n c.args.irreducibles.now, ranked.listing.few)
-
 pub returns-in-Some : goal.returns-in-Some
 returns-in-Some c =
+    let (_, ranked, _, _) = c.requires in
     let at = placed (goal.at.returns-in-Some c).In-Some in
+    let inside : c.in-Some.k < length c.args.irreducibles.now = omega (arith, at.within, rows-length c.args.n c.args.irreducibles.now) in
     record {
-      below = record { below = λ k. rw (c.unit.ensures k) (indicator-below _ _ _ c.args.field.prime.prime.above_one) };
-      made = by_unit c.in-Some.k (omega (arith, at.within, rows-length c.args.n c.args.irreducibles.now)) at.found c.unit.ensures;
+      below = (c.unit.ensures.represents _ c.args.field.prime.prime.above_one).below;
+      made = by_unit c.in-Some.k inside at.found (c.unit.ensures.place (omega (arith, inside, ranked.listing.few)));
     }
 
 pub product_row-requires : goal.product_row-requires

@@ -7,4 +7,4 @@ use Rattle.multiplication.specs.Rules.{PassesBy}
 use Rattle.multiplication.proofs.fill.variable_through.Given as goal
 
 abbrev pub invariant-loop-j : goal.invariant-loop-j
-invariant-loop-j l = (k : ℕ) → k < l.j → ¬ PassesBy l.ranks (exponent l.n (row l.n l.m) k) l.wanted (get_or l.variables k 0)
+invariant-loop-j l = (k : ℕ) → k < l.j → ¬ PassesBy l.ranks (exponent l.fn.n (row l.fn.n l.m) k) l.wanted (get_or l.variables k 0)
