@@ -41,8 +41,8 @@ none-not-found : {r : Record} {i : ℕ} → ◌≡◌ {A = Option (Record × ℕ
 none-not-found e = let z : ◌≡◌ {A = ℕ} 0 1 = cc in omega arith
 
 module _ (n k : ℕ) (s : Bytes) (at : ℕ) where
-  pub record-found : (r : Record) (i : ℕ) → at ≤ length s → read_at n k s at ≡ Some (r, i) → RecordLine n k s at r i
-  record-found r i h e = go (read_line n (drop at s)) refl e
+  pub record-found : (r : Record) (i : ℕ) → read_at n k s at ≡ Some (r, i) → RecordLine n k s at r i
+  record-found r i e = go (read_line n (drop at s)) refl e
     where
       go : (g : Got TextLine) → read_line n (drop at s) ≡ g → read_of k s at g ≡ Some (r, i) → RecordLine n k s at r i
       go (got l rest) q f =

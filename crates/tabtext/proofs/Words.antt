@@ -4,7 +4,7 @@
 --   word-said                      whether a word stands at a place
 --   Letter                         the letters a to z
 --   read-of-order, order-of-read   an order word: 1 to 8 letters
-use Prim.Native.Nat.{ℕ, zero, suc, ◌+◌, ◌-◌, ◌≤◌}
+use Prim.Native.Nat.{ℕ, zero, suc, ◌+◌, ◌-◌, ◌≤◌, min}
 use mathlib.Core.Path.{◌≡◌, refl, ap, sym, ◌∙◌}
 use mathlib.Core.List.{[], ◌∷◌, ◌++◌, append_assoc, append-nil}
 use mathlib.Core.Bool.{Bool, true, false}
@@ -15,6 +15,7 @@ use lib.Seq.{drop-drop, take-length}
 use borrow.Author.Tests.{eq-eqb, eqb-true, le-leb}
 use Rattle.std.specs.List.{starts_with as begins_with}
 use Rattle.std.proofs.lemmas.Bool.Decides.{Decides-eqb}
+use Rattle.std.proofs.lemmas.List.{drop_min}
 use Rattle.std.proofs.lemmas.Slice.Eq.{starts_is}
 use Rattle.lists.specs.Lists.{Bytes, Each}
 use Rattle.tabtext.specs.Answers.{WordAt, WordSays}
@@ -48,14 +49,16 @@ word-of-read (b ∷ w) s e =
     byte-of-read b s r.front ∙ ap (λ x. b ∷ x) (word-of-read w r.between r.back)
 
 -- What `starts_with` says of the bytes from a place on.
-module _ (w s : Bytes) (at : ℕ) (within : at ≤ length s) where
+module _ (w s : Bytes) (at : ℕ) where
   word-begins : drop at s ≡ w ++ drop (length w) (drop at s) → WordAt w s at
   word-begins e =
       let long : length s - at ≡ length w + length (drop (length w) (drop at s)) = sym (length-drop at s) ∙ ap length e ∙ length-append w _ in
-      record { reads = ap (read_word w) e ∙ read-of-word w _ ∙ ap (got tt) (drop-drop (length w) at s); inside = omega (arith, long) }
+      record { reads = ap (read_word w) e ∙ read-of-word w _ ∙ ap (got tt) (drop-drop (length w) at s); inside = λ h. omega (arith, long) }
 
-  pub word-said : (b : Bool) → b ≡ begins_with eqb (take (length s - at) (drop at s)) w → WordSays w s at b
-  word-said b e = go b (starts_is Decides-eqb (drop at s) w b (e ∙ rw (← length-drop at s, take-length (drop at s))))
+  pub word-said : (b : Bool) {i : ℕ} → i ≡ min at (length s) → b ≡ begins_with eqb (take (length s - i) (drop i s)) w → WordSays w s at b
+  word-said b {i} m e =
+      let rest : drop i s ≡ drop at s = rw m (drop_min at s) in
+      go b (starts_is Decides-eqb (drop at s) w b (e ∙ rw (← length-drop i s, take-length (drop i s), rest)))
     where
       go : (b : Bool) → (b ≡ true → drop at s ≡ w ++ drop (length w) (drop at s)) × ((rest : Bytes) → drop at s ≡ w ++ rest → b ≡ true) → WordSays w s at b
       go true d = word-begins (d.0 refl)

@@ -7,6 +7,7 @@
 //   exponent_at                the exponent of a variable, as a number
 //   print_exponents            the exponents of a monomial
 //   print_term                 a coefficient and a monomial
+//   print_fields               a word and a field for each element, as a line
 //   print_generator            a poly line
 //   print_standard             a stairs line
 //   print_header               a basis line
@@ -64,7 +65,7 @@ pub fn print_term<S: Sink>(sink: &mut S, c: Residue, m: Monomial, n: Variables)
     print_exponents(&mut *sink, m, n);
 }
 
-// A word, a tab and the field of each element, and LF.
+// A word, and for each element a tab and its field, which the closure prints; then LF.
 fn print_fields<S: Sink, T, F: Fn(&mut S, &T)>(sink: &mut S, word: &[u8], items: &[T], field: F)
     requires { (f : Shown T) × PrintsFields S.takes S.after (λ s x. F.pre field s x) (λ s x r. F.post field s x tt r) f sink.old word.now items.now }
     ensures { (f : Shown T) → PrintsFields S.takes S.after (λ s x. F.pre field s x) (λ s x r. F.post field s x tt r) f sink.old word.now items.now

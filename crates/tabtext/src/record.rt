@@ -41,10 +41,9 @@ pub struct Record {
 
 // Whether a word stands at a place.
 pub fn word_at(text: &[u8], at: usize, word: &[u8]) -> bool
-    requires { at ≤ length text.now }
     ensures { WordSays word.now text.now at result }
 {
-    text[at..].starts_with(word)
+    text[at.min(text.len())..].starts_with(word)
 }
 
 // Whether a letter a to z stands at a place.
@@ -119,9 +118,9 @@ fn read_standard(text: &[u8], at: usize, n: Variables) -> Option<(Kind, usize)>
 
 // The kind of the line at a place, in n variables. Its first word decides how it is read; a runs line and an end line have a number after it.
 fn read_kind(text: &[u8], at: usize, n: Variables) -> Option<(Kind, usize)>
-    requires { at ≤ length text.now }
     ensures { result ≡ kind_read text.now at (read_line n (drop at text.now)) }
 {
+    // A chain and no table of words: the readers differ in what they take and give, and a table would hand out function pointers and be no plainer.
     if word_at(text, at, b"basis\t") {
         read_header(text, at)
     } else if word_at(text, at, b"poly") {
@@ -141,7 +140,6 @@ fn read_kind(text: &[u8], at: usize, n: Variables) -> Option<(Kind, usize)>
 
 // The line at a place, in n variables: its record, with the line's number, and the place after its LF.
 pub fn read_record(text: &[u8], at: usize, n: Variables, line: usize) -> Option<(Record, usize)>
-    requires { at ≤ length text.now }
     ensures { result ≡ read_at n line text.now at }
 {
     let (kind, next) = read_kind(text, at, n)?;

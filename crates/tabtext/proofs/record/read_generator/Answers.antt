@@ -8,6 +8,10 @@ use Rattle.tabtext.proofs.Places.{ahead-got, ahead-bad}
 use Rattle.tabtext.proofs.Found.{line-missing, line-found}
 use Rattle.tabtext.proofs.record.read_generator.Goals as goal
 
+pub overflow_add-start : goal.overflow_add-start
+unfolding bytes
+overflow_add-start c = omega (arith, c.requires.inside (omega arith))
+
 pub returns-then-not-byte_is : goal.returns-then-not-byte_is
 unfolding bytes read_generator
 returns-then-not-byte_is c =

@@ -7,6 +7,10 @@ use Rattle.tabtext.proofs.Steps.{then-got, then-bad}
 use Rattle.tabtext.proofs.Found.{line-missing, line-found}
 use Rattle.tabtext.proofs.record.read_standard.Goals as goal
 
+pub overflow_add-start : goal.overflow_add-start
+unfolding bytes
+overflow_add-start c = omega (arith, c.requires.inside (omega arith))
+
 pub returns-in_err-next : goal.returns-in_err-next
 unfolding bytes read_standard
 returns-in_err-next c = c.from_residual.ensures ∙ line-missing c.requires _ (then-bad _ _ _ c.in_err-next.ensures)
