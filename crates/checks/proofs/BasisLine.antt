@@ -7,15 +7,16 @@
 --   lines-decide      it passes, and the lines after it decide
 use Prim.Native.Nat.{ℕ, ◌+◌, ◌-◌, ◌≤◌}
 use mathlib.Core.Path.{◌≡◌, refl, ap, ap₂, sym, subst, ◌∙◌}
-use mathlib.Core.List.{List, ◌∷◌, ◌++◌}
+use mathlib.Core.List.{◌∷◌, ◌++◌}
 use mathlib.Core.Option.{none, some}
 use native.Mathlib.Omega.{arith}
 use lib.ListN.{length, take, drop, length-append}
 use lib.Seq.{take-append_seam}
+use Rattle.arrayvec.specs.ArrayVec.{ArrayVec}
 use Rattle.lists.specs.Lists.{Bytes}
 use Rattle.answer.specs.Outcomes as outcomes
 use Rattle.answer.specs.declared.Refused.{Refused}
-use Rattle.lines.specs.declared.Shape.{Shape}
+use Rattle.lines.specs.declared.line.LineTerm.{LineTerm}
 use Rattle.tabtext.specs.Text.{bytes, TextLine, header, generator, standard, points, end, line}
 use Rattle.tabtext.specs.Readers.{got, bad, read_line}
 use Rattle.tabtext.specs.Answers.{kind_of}
@@ -27,7 +28,7 @@ use Rattle.tabtext.proofs.Records.{RecordLine}
 use Rattle.checks.specs.Checks.{Front, check_header, Checked, malformed_header, header_refused, header_passed}
 use Rattle.checks.specs.Answers.{LinesSays, BasisSays}
 use Rattle.checks.proofs.Fronts.{front-of-read, no_front, front_same}
-use Rattle.std.specs.Prelude.{Result, Ok, Err}
+use Rattle.std.specs.Prelude.{Result, Ok, Err, ⊤}
 
 -- The form of a basis line does not depend on the number of variables.
 other-n : {order : Bytes} {p k n m : ℕ} {s rest : Bytes} → Front n s (header order p k) rest → Front m s (header order p k) rest
@@ -95,7 +96,7 @@ other-line s i e o = malformed_header (λ order p n rest f. o _ (ap (kind_of 0 i
 pub basis-refused : (s : Bytes) (h : Header) (i : ℕ) (k : ℕ) (b : BasisLine s h i) → check_header b.order h.p h.n (some k) → Checked s (outcomes.refused k 1)
 basis-refused s h i k b c = header_refused k b.front c refl
 
-pub lines-decide : (s : Bytes) (h : Header) (i : ℕ) (r : Result Shape Refused) (ts cs es : List ℕ) (b : BasisLine s h i) → check_header b.order h.p h.n none →
-    LinesSays h.p h.n (drop i s) r ts cs es → BasisSays s r ts cs es
-lines-decide s h i (Ok shape) ts cs es b c l = (header_passed b.front c l.0, l.1)
-lines-decide s h i (Err e) ts cs es b c l = header_passed b.front c l
+pub lines-decide : (s : Bytes) (h : Header) (i : ℕ) (r : Result ⊤ Refused) (ls : ArrayVec (ArrayVec LineTerm)) (b : BasisLine s h i) → check_header b.order h.p h.n none →
+    LinesSays h.p h.n (drop i s) r ls → BasisSays s r (record { p = h.p; n = h.n; lines = ls })
+lines-decide s h i (Ok _) ls b c l = (header_passed b.front c l.0, l.1)
+lines-decide s h i (Err e) ls b c l = header_passed b.front c l

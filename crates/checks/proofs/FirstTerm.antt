@@ -4,33 +4,30 @@
 --   no-first       a term stands first
 --   line_refused   the first term is refused
 --   good-first     it passes, and is good
---   padded-first   the monomial of the line that holds the first term alone is 0 from place n on
+--   padded-first   its monomial is 0 from place n on
 --   later          the first term passes, and the later ones decide
-use Prim.Native.Nat.{ℕ, suc, ◌+◌, ◌≤◌, ◌<◌}
+use Prim.Native.Nat.{ℕ, ◌+◌, ◌≤◌, ◌<◌}
 use mathlib.Core.Path.{◌≡◌, refl, ap, sym, ◌∙◌}
-use mathlib.Core.List.{List, [], ◌∷◌, ◌++◌}
+use mathlib.Core.List.{List, [], ◌∷◌}
 use mathlib.Core.Logic.{inl, inr}
 use mathlib.Core.Bool.{true}
 use mathlib.Core.Option.{none, some}
 use native.Mathlib.Omega.{arith}
 use lib.ListN.{length, take, drop}
 use lib.Seq.{length-take-le}
+use Rattle.arrayvec.specs.ArrayVec.{ArrayVec}
 use Rattle.lists.specs.Lists.{Bytes}
-use Rattle.residue.specs.declared.Residue.{Residue}
 use Rattle.monomial.specs.Represented.{row}
-use Rattle.monomial.specs.declared.Monomial.{Monomial}
 use Rattle.monomial.proofs.Places.{row-monomial}
 use Rattle.answer.specs.Outcomes.{pass}
 use Rattle.answer.specs.Refusals.{number}
 use Rattle.answer.specs.declared.Refusal.{Refusal}
 use Rattle.lines.specs.Sizes.{most_lines}
 use Rattle.lines.specs.Terms.{Term, as_row}
-use Rattle.lines.specs.LineTerms.{terms_in}
-use Rattle.lines.specs.Bases.{PaddedLine}
-use Rattle.lines.specs.Longer.{Longer}
-use Rattle.lines.specs.declared.line.Generator.{Generator}
+use Rattle.lines.specs.LineTerms.{term_of}
+use Rattle.lines.specs.Bases.{Padded}
+use Rattle.lines.specs.declared.line.LineTerm.{LineTerm}
 use Rattle.lines.proofs.AsRow.{padded-monomial}
-use Rattle.lines.proofs.OneMoreTerm.{held-longer}
 use Rattle.tabtext.specs.Readers.{bad, starts_with, read_term}
 use Rattle.tabtext.specs.Answers as answers
 use Rattle.tabtext.specs.declared.terms.RawTerm.{RawTerm}
@@ -70,28 +67,20 @@ module _ (p n : ℕ) (text : Bytes) (start i : ℕ) (term : RawTerm) (reads : an
     pub good-first : GoodTerm p t
     good-first = (passes-term p t passes).0
 
-    -- The value `one` holds it alone.
-    module _ (line one : Generator) (x : Residue) (m : Monomial) (none : line.terms ≡ 0) (keeps : KeepsTerm p n t x m) (longer : Longer line x m one) where
-      pub padded-first : PaddedLine n one
-      padded-first = held-longer n line one longer (omega (arith, none), rw none tt) (padded-monomial n _ keeps.monomial)
+    -- The term `first` of the code is made of it.
+    module _ (first : LineTerm) (keeps : KeepsTerm p n t first) where
+      pub padded-first : Padded n first.monomial
+      padded-first = padded-monomial n _ keeps.monomial
 
-      only : n ≤ length term.row → terms_in n one ≡ t ∷ []
-      unfolding terms_in
-      only h =
-          let l = longer.terms n in
-          l ∙ rw (none, kept p n t keeps good-first (length-take-le n term.row h))
-
-      line-says : (k : ℕ) (left : List Term) (r : Result Generator Refusal) → k ≤ most_lines → n ≤ length term.row → LaterSays p n one t left r →
+      line-says : (k : ℕ) (left : List Term) (r : Result (ArrayVec LineTerm) Refusal) → k ≤ most_lines → n ≤ length term.row → LaterSays p n first t left r →
           GeneratorSays p n k (t ∷ left) r
       line-says k left (Ok g) b h l =
-          let count : suc one.terms ≡ 2 = ap suc (longer.count ∙ ap suc none) in
-          (inr (λ g. omega arith, first-passed p t passes (rw count at l.0)), l.1 ∙ ap (λ x. x ++ left) (only h), l.2)
-      line-says k left (Err x) b h l =
-          let count : suc one.terms ≡ 2 = ap suc (longer.count ∙ ap suc none) in
-          inr (λ g. omega arith, first-passed p t passes (rw count at l))
+          let same : term_of n first ≡ t = kept p n t keeps good-first (length-take-le n term.row h) in
+          (inr (λ g. omega arith, first-passed p t passes l.0), l.1 ∙ ap (λ x. x ∷ left) same, l.2)
+      line-says k left (Err x) b h l = inr (λ g. omega arith, first-passed p t passes l)
 
-      pub later : (k : ℕ) (r : Result Generator Refusal) → k ≤ most_lines → n ≤ length term.row →
-          ((left : List Term) (before : Term) → Ahead n (drop i text) left → as_row n before.1 ≡ row n m → LaterSays p n one before left r) →
+      pub later : (k : ℕ) (r : Result (ArrayVec LineTerm) Refusal) → k ≤ most_lines → n ≤ length term.row →
+          ((left : List Term) (before : Term) → Ahead n (drop i text) left → as_row n before.1 ≡ row n first.monomial → LaterSays p n first before left r) →
           (terms : List Term) → Ahead n (drop start text) terms → 1 ≤ length terms → GeneratorSays p n k terms r
       later k r b h rest terms a g =
           let q = next-term n text start terms a (tab n (drop start text) terms a g) reads.reads in

@@ -10,9 +10,10 @@ use mathlib.Core.List.{List}
 use native.Mathlib.Numerals.{add-one}
 use native.Mathlib.Omega.{arith}
 use lib.ListN.{length, drop}
+use Rattle.arrayvec.specs.ArrayVec.{ArrayVec}
 use Rattle.lists.specs.Lists.{Bytes}
 use Rattle.lines.specs.Terms.{Term}
-use Rattle.lines.specs.declared.line.Generator.{Generator}
+use Rattle.lines.specs.declared.line.LineTerm.{LineTerm}
 use Rattle.tabtext.specs.Text.{TextLine, header, generator, standard, points, end, Form}
 use Rattle.tabtext.specs.Readers.{got, read_line}
 use Rattle.tabtext.specs.Answers.{kind_of}
@@ -74,8 +75,8 @@ module _ (n k : ℕ) (s : Bytes) (at : ℕ) (r : Record) (i : ℕ) (f : RecordLi
   end-of-found e =
       front-of-read n (drop at s) (f.reads ∙ ap (λ l. got l (drop i s)) (end-kind at i f.text (sym f.kind ∙ e)))
 
-pub poly-passed : (p n k : ℕ) (s : Bytes) (at start i : ℕ) (g : Generator) (poly : GeneratorKind n s at start i) → GeneratorSays p n (k + 1) poly.terms (Ok g) →
-    PassedLine p n k s at i g
+pub poly-passed : (p n k : ℕ) (s : Bytes) (at start i : ℕ) (g : ArrayVec LineTerm) (poly : GeneratorKind n s at start i) → GeneratorSays p n (k + 1) poly.terms (Ok g) →
+    PassedLine p n k s at i g.items
 poly-passed p n k s at start i g poly h =
     record {
       front = rw h.1 (front-of-read n (drop at s) poly.reads);

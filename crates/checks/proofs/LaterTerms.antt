@@ -13,15 +13,16 @@
 --   refused         a term is refused
 use Prim.Native.Nat.{ℕ, suc, ◌+◌, ◌≤◌, ◌<◌}
 use mathlib.Core.Path.{◌≡◌, refl, ap, sym, ◌∙◌}
-use mathlib.Core.List.{List, [], ◌∷◌, ◌++◌, append_assoc, append-nil}
+use mathlib.Core.List.{List, [], ◌∷◌, ◌++◌, append_assoc, append-nil, map-append}
 use mathlib.Core.Bool.{true, false, false≢true}
 use mathlib.Core.Option.{Option, none, some}
 use native.Mathlib.Numerals.{add-one}
 use native.Mathlib.Omega.{arith}
-use lib.ListN.{length, take, drop}
+use lib.ListN.{length, take, drop, length-append}
 use lib.Seq.{drop-drop, length-take-le}
+use Rattle.arrayvec.specs.ArrayVec.{ArrayVec}
 use Rattle.lists.specs.Lists.{Bytes}
-use Rattle.residue.specs.declared.Residue.{Residue}
+use Rattle.lists.proofs.EachElement.{each_last}
 use Rattle.monomial.specs.Represented.{row}
 use Rattle.monomial.specs.declared.Monomial.{Monomial}
 use Rattle.monomial.proofs.Places.{row-monomial}
@@ -30,12 +31,10 @@ use Rattle.answer.specs.Refusals.{number}
 use Rattle.answer.specs.declared.Refusal.{Refusal}
 use Rattle.lines.specs.Sizes.{most_terms}
 use Rattle.lines.specs.Terms.{Term, as_row}
-use Rattle.lines.specs.LineTerms.{exponents_of, terms_in}
-use Rattle.lines.specs.Bases.{PaddedLine}
-use Rattle.lines.specs.Longer.{Longer}
-use Rattle.lines.specs.declared.line.Generator.{Generator}
+use Rattle.lines.specs.LineTerms.{exponents_of, term_of, terms_in}
+use Rattle.lines.specs.Bases.{Padded, PaddedLine}
+use Rattle.lines.specs.declared.line.LineTerm.{LineTerm}
 use Rattle.lines.proofs.AsRow.{as_row-exponents, padded-monomial}
-use Rattle.lines.proofs.OneMoreTerm.{held-longer}
 use Rattle.tabtext.specs.Readers.{got, bad, starts_with, read_term}
 use Rattle.tabtext.specs.Answers as answers
 use Rattle.tabtext.specs.declared.terms.RawTerm.{RawTerm}
@@ -75,72 +74,77 @@ pub record NextTerm (p n : ℕ) (text : Bytes) (j : ℕ) (last : Monomial) (at i
   pub reads : answers.TermSays n text (at + 1) (Some (term, i))
   pub says : (b : Term) → as_row n b.1 ≡ row n last → check_next p n (j + 1) b (term.coefficient, take n term.row) pass o
 
-module _ (p n : ℕ) (text : Bytes) (line : Generator) where
-  -- The terms `first` after those of `line`, the last of which is `before₀`: what is left of them at the place `at`, after those of g.
-  pub record Rest (g : Generator) (last : Monomial) (at : ℕ) (first : List Term) (before₀ : Term) : Type 0 where
+-- One more term, as numbers.
+terms-more : (n : ℕ) (g : List LineTerm) (u : LineTerm) → terms_in n (g ++ (u ∷ [])) ≡ terms_in n g ++ (term_of n u ∷ [])
+unfolding terms_in
+terms-more n g u = map-append (term_of n) g (u ∷ [])
+
+module _ (p n : ℕ) (text : Bytes) (first : LineTerm) where
+  -- The terms `all` after the first, which was read as before₀: what is left of them at the place `at`, after those of g.
+  pub record Rest (g : List LineTerm) (last : Monomial) (at : ℕ) (all : List Term) (before₀ : Term) : Type 0 where
     pub left : List Term
     pub before : Term
     pub ahead : Ahead n (drop at text) left
     pub holds : as_row n before.1 ≡ row n last
-    pub terms : terms_in n g ++ left ≡ terms_in n line ++ first
-    pub checks : (o : Option ℕ) → check_terms p n (suc g.terms) before left o → check_terms p n (suc line.terms) before₀ first o
+    pub terms : terms_in n g ++ left ≡ term_of n first ∷ all
+    pub checks : (o : Option ℕ) → check_terms p n (suc (length g)) before left o → check_terms p n 2 before₀ all o
 
-  module _ (m : Monomial) (begin : ℕ) where
-    pub record Inv (g : Generator) (last : Monomial) (at : ℕ) : Type 0 where
-      pub inside : at ≤ length text
+  module _ (begin : ℕ) where
+    pub record Inv (g : List LineTerm) (last : Monomial) (at : ℕ) : Type 0 where
       pub held : PaddedLine n g
-      pub rest : (first : List Term) (before : Term) → Ahead n (drop begin text) first → as_row n before.1 ≡ row n m → Rest g last at first before
+      pub rest : (all : List Term) (before : Term) → Ahead n (drop begin text) all → as_row n before.1 ≡ row n first.monomial → Rest g last at all before
 
-    pub start : begin ≤ length text → PaddedLine n line → Inv line m begin
-    start h l = record {
-      inside = h;
-      held = l;
-      rest = λ first before a e. record { left = first; before = before; ahead = a; holds = e; terms = refl; checks = λ o c. c };
+    pub start : Padded n first.monomial → Inv (first ∷ []) first.monomial begin
+    unfolding terms_in
+    start h = record {
+      held = (omega arith, (h, tt));
+      rest = λ all before a e. record { left = all; before = before; ahead = a; holds = e; terms = refl; checks = λ o c. c };
     }
 
-    module _ (g : Generator) (last : Monomial) (at : ℕ) (inv : Inv g last at) where
-      pub stop : starts_with 9 (drop at text) ≡ false → (first : List Term) (before : Term) → Ahead n (drop begin text) first →
-          as_row n before.1 ≡ row n m → LaterSays p n line before first (Ok g)
-      stop e first before a h =
-          let r = inv.rest first before a h in
+    module _ (g : List LineTerm) (last : Monomial) (at : ℕ) (inv : Inv g last at) where
+      pub stop : {r : ArrayVec LineTerm} → g ≡ r.items → starts_with 9 (drop at text) ≡ false → (all : List Term) (before : Term) → Ahead n (drop begin text) all →
+          as_row n before.1 ≡ row n first.monomial → LaterSays p n first before all (Ok r)
+      stop is e all before a h =
+          let r = inv.rest all before a h in
           let q = no_more n text at r.left r.ahead e in
-          (r.checks none (rw q refl), sym (append-nil _) ∙ (rw q at r.terms), inv.held)
+          rw (← is) (r.checks none (rw q refl), sym (append-nil _) ∙ (rw q at r.terms), inv.held)
 
       module _ (i : ℕ) (term : RawTerm) where
         abbrev t : Term
         t = (term.coefficient, take n term.row)
 
-        pub refused : (k : Refusal) → NextTerm p n text g.terms last at i term (some (number k)) → (first : List Term) (before : Term) →
-            Ahead n (drop begin text) first → as_row n before.1 ≡ row n m → LaterSays p n line before first (Err k)
-        refused k next first before a h =
-            let r = inv.rest first before a h in
+        pub refused : (k : Refusal) → NextTerm p n text (length g) last at i term (some (number k)) → (all : List Term) (before : Term) →
+            Ahead n (drop begin text) all → as_row n before.1 ≡ row n first.monomial → LaterSays p n first before all (Err k)
+        refused k next all before a h =
+            let r = inv.rest all before a h in
             let q = next-term n text at r.left r.ahead next.tab next.reads.reads in
-            r.checks (some (number k)) (rw q.cons (next-refused p n (suc g.terms) r.before t (rw add-one at (next.says r.before r.holds))))
+            r.checks (some (number k)) (rw q.cons (next-refused p n (suc (length g)) r.before t (rw add-one at (next.says r.before r.holds))))
 
-        module _ (next : NextTerm p n text g.terms last at i term none) where
+        module _ (next : NextTerm p n text (length g) last at i term none) where
           -- It passes after the last term, whatever the coefficient of that one.
-          own : check_next p n (g.terms + 1) (0, exponents_of n last) t pass none
+          own : check_next p n (length g + 1) (0, exponents_of n last) t pass none
           own = next.says (0, exponents_of n last) (as_row-exponents n last)
 
-          pub room : g.terms < most_terms
+          pub room : length g < most_terms
           room = omega (arith, (skipped own).0)
 
           pub good : GoodTerm p t
           good = (passes-term p t (skipped own).1).0
 
-          pub turn : {g' : Generator} {x : Residue} {m' : Monomial} → n ≤ length term.row → KeepsTerm p n t x m' → Longer g x m' g' → Inv g' m' i
-          turn {g'} h k l = record {
-            inside = next.reads.inside;
-            held = held-longer n g g' l inv.held (padded-monomial n _ k.monomial);
-            rest = λ first before a b.
-                let r = inv.rest first before a b in
-                let q = next-term n text at r.left r.ahead next.tab next.reads.reads in
-                record {
-                  left = q.later;
-                  before = t;
-                  ahead = q.ahead;
-                  holds = sym (rw k.monomial (row-monomial n _));
-                  terms = rw (l.terms n, append_assoc, kept p n t k good (length-take-le n term.row h)) (rw q.cons at r.terms);
-                  checks = λ o d. r.checks o (rw q.cons (next-passed p n (suc g.terms) r.before t (rw add-one at (next.says r.before r.holds)) (rw l.count at d)));
-                };
-          }
+          pub turn : {u : LineTerm} → n ≤ length term.row → KeepsTerm p n t u → Inv (g ++ (u ∷ [])) u.monomial i
+          turn {u} h k =
+              let count : length (g ++ (u ∷ [])) ≡ suc (length g) = length-append g (u ∷ []) ∙ add-one _ in
+              record {
+                held = (omega (arith, room, count), each_last (λ (x : LineTerm). Padded n x.monomial) g inv.held.1 (padded-monomial n _ k.monomial));
+                rest = λ all before a b.
+                    let r = inv.rest all before a b in
+                    let q = next-term n text at r.left r.ahead next.tab next.reads.reads in
+                    record {
+                      left = q.later;
+                      before = t;
+                      ahead = q.ahead;
+                      holds = sym (rw k.monomial (row-monomial n _));
+                      terms = rw (terms-more, append_assoc, kept p n t k good (length-take-le n term.row h)) (rw q.cons at r.terms);
+                      checks = λ o d. r.checks o (rw q.cons (next-passed p n (suc (length g)) r.before t (rw add-one at (next.says r.before r.holds)) (rw count at d)));
+                    };
+              }

@@ -9,7 +9,7 @@
 --   LineSays          what the answer to a line after the basis line says
 --   LinesSays         what the answer to the lines after the basis line says
 --   BasisSays         what the answer to a text says
-use Rattle.std.specs.Prelude.{ℕ, suc, ◌≤◌, ◌<◌, ◌≡◌, List, [], ◌∷◌, ◌++◌, true, false, length, drop, ⊤, Result, Ok, Err, Option, Some, None}
+use Rattle.std.specs.Prelude.{ℕ, suc, ◌≤◌, ◌<◌, ◌≡◌, List, [], ◌∷◌, true, false, length, drop, ⊤, Result, Ok, Err, Option, Some, None}
 use Rattle.std.proofs.Math.Option.{none, some}
 use Rattle.arrayvec.specs.ArrayVec.{ArrayVec}
 use Rattle.lists.specs.Lists.{Bytes}
@@ -72,7 +72,7 @@ LineSays p n k s at (Err e) = Stops p n k (drop at s) (Err e)
 
 -- The answer to the lines s after the basis line: they pass, and ls are the lines of the basis; or the refusal.
 abbrev pub LinesSays : (p n : ℕ) → Bytes → Result ⊤ Refused → ArrayVec (ArrayVec LineTerm) → Type 0
-LinesSays p n s (Ok _) ls = let b = record { p = p; n = n; lines = ls } in Remaining p n (passed (basis_of b)) [] s × PaddedBasis b
+LinesSays p n s (Ok _) ls = let b : StoredBasis = record { p = p; n = n; lines = ls } in Remaining p n (passed (basis_of b)) [] s × PaddedBasis b
 LinesSays p n s (Err e) ls = Remaining p n (refused (number e.refusal) e.line) [] s
 
 -- The answer to a text: the outcome of checks 2 to 11, and the basis b if it passes. If it is refused, b is free.

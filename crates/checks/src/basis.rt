@@ -35,7 +35,7 @@ fn read_line(
     n: Variables,
     k: usize,
 ) -> Result<Option<(Generator, usize)>, Refused>
-    requires { (at ≤ length text.now) × (k ≤ most_lines) }
+    requires { k ≤ most_lines }
     ensures { LineSays p n k text.now at result }
 {
     let Some((record, next)) = read_record(text, at, n, k + 2) else {
@@ -65,7 +65,7 @@ fn read_lines(
     n: Variables,
     lines: &mut ArrayVec<Generator, MAX_LINES>,
 ) -> Verdict
-    requires { (start ≤ length text.now) × (lines.old.items ≡ []) }
+    requires { lines.old.items ≡ [] }
     ensures { LinesSays p n (drop start text.now) result lines.new }
 {
     let mut at = start;

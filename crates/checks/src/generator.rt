@@ -21,7 +21,7 @@ fn read_later(
     n: Variables,
     first: LineTerm,
 ) -> Result<Generator, Refusal>
-    requires { (start ≤ length text.now) × Padded n first.monomial }
+    requires { Padded n first.monomial }
     ensures { (left : List Term) (before : Term) → Ahead n (drop start text.now) left → as_row n before.1 ≡ row n first.monomial
         → LaterSays p n first before left result }
 {

@@ -19,7 +19,9 @@ use tabtext::terms::RawTerm;
 fn small_exponents(exponents: [u32; MAX_VARIABLES], n: Variables) -> bool
     ensures { (result ≡ true) ↔ Each (λ e. e ≤ most_exponent) (take n exponents) }
 {
-    exponents[..n.count()].iter().all(|&e| e <= MAX_EXPONENT as u32)
+    exponents[..n.count()]
+        .iter()
+        .all(|&e| e <= MAX_EXPONENT as u32)
 }
 
 // The monomial with the exponents of a row.

@@ -1,7 +1,6 @@
 -- `read_line` meets its contract.
 use Prim.Native.Nat.{ℕ, ◌+◌}
 use mathlib.Core.Path.{◌≡◌, sym, ◌∙◌}
-use native.Mathlib.Omega.{arith}
 use borrow.Author.Rules.{rules}
 use Rattle.std.proofs.lemmas.Result.{err_from_is_err_and}
 use Rattle.lists.specs.Lists.{Bytes}
@@ -21,7 +20,7 @@ next c = c.in-Some.next
 
 -- The record of the line.
 line : (c : In-Some) → let a = c.args in RecordLine a.n (a.k + 2) (text c) a.at c.in-Some.record (next c)
-line c = record-found _ _ (text c) c.args.at c.in-Some.record (next c) (omega arith) (sym c.read_record.ensures ∙ c.in-Some.is)
+line c = record-found _ _ (text c) c.args.at c.in-Some.record (next c) (sym c.read_record.ensures ∙ c.in-Some.is)
 
 -- It is a poly line.
 poly : (c : In-Generator) → let a = c.args in GeneratorKind a.n (text (goal.at.In-Generator c).In-Some) a.at c.in-Generator.span.start (next (goal.at.In-Generator c).In-Some)
@@ -32,7 +31,7 @@ returns-in_default c =
     rw c.at.ensures (none-stands _ _ _ _ (record-none _ _ _ c.args.at (sym c.read_record.ensures ∙ c.in_default.is)))
 
 pub check_generator-requires : goal.check_generator-requires
-check_generator-requires c = (omega arith, (poly c).begins)
+check_generator-requires c = (poly c).begins
 
 pub returns-in_err-generator-in-Generator : goal.returns-in_err-generator-in-Generator
 returns-in_err-generator-in-Generator c =

@@ -40,7 +40,7 @@ returns-in_err-check_term c b e =
 pub monomial_of-requires : goal.monomial_of-requires
 monomial_of-requires c =
     let k = (goal.at.monomial_of-requires c).In_ok-check_term in
-    (omega arith, (passes-term _ (term k) (passes k)).0.2)
+    (passes-term _ (term k) (passes k)).0.2
 
 pub returns-in-Less : goal.returns-in-Less
 returns-in-Less c b e =

@@ -15,7 +15,7 @@ loop-i-init c = (search rules, ap (λ m. m.e) c.one-m.ensures ∙ filled_none _ 
 pub overflow_cast-m : goal.overflow_cast-m
 overflow_cast-m c =
     let h : c.loop-i.i < c.args.n = omega arith in
-    omega (arith, (each_take (λ e. e ≤ most_exponent) 0 _ _ c.loop-i.invariant.0).0 c.requires.1 c.loop-i.i h)
+    omega (arith, (each_take (λ e. e ≤ most_exponent) 0 _ _ c.loop-i.invariant.0).0 c.requires c.loop-i.i h)
 
 pub loop-i-preserved : goal.loop-i-preserved
 loop-i-preserved c =

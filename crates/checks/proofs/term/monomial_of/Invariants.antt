@@ -7,4 +7,4 @@ use Rattle.lines.specs.Terms.{as_row}
 use Rattle.checks.proofs.term.monomial_of.Given as goal
 
 abbrev pub invariant-loop-i : goal.invariant-loop-i
-invariant-loop-i l = (l.n ≤ length l.exponents) × (l.m.e ≡ filled l.n (as_row l.n (take l.n l.exponents)) l.i)
+invariant-loop-i l = (l.fn.n ≤ length l.exponents) × (l.m.e ≡ filled l.fn.n (as_row l.fn.n (take l.fn.n l.exponents)) l.i)
