@@ -10,10 +10,8 @@
 --   onward                                             the next monomial
 use mathlib.Core.Path.{◌≡◌, sym, ◌∙◌, ap, subst}
 use mathlib.Core.List.{List, [], ◌∷◌, ◌++◌}
-use mathlib.Core.Logic.{by_cases}
 use Prim.Native.Nat.{ℕ, suc, ◌+◌, ◌*◌, ◌≤◌, ◌<◌}
 use native.Mathlib.Nat.{mul-le-mul_left}
-use native.Mathlib.Decide.{dec_lt}
 use native.Mathlib.Omega.{arith}
 use lib.ListN.{length, length-append, length-set}
 use Rattle.std.specs.Prelude.{Option, Some, None, option_map, IfSome}
@@ -41,14 +39,12 @@ use Rattle.staircase.specs.Leads.{rows_of, lead_monomials, multiple, FoundNext}
 use Rattle.staircase.specs.Listed.{listed}
 use Rattle.staircase.proofs.PaddedRows.{held-row, padded, one-held}
 use Rattle.coordinates.specs.Vectors.{Below, FullLength, FirstPlace}
-use Rattle.coordinates.specs.Rows.{RowPut}
 use Rattle.coordinates.specs.declared.Coordinates.{Coordinates}
-use Rattle.coordinates.proofs.RowArrays.{put-kept}
 use Rattle.multiplication.specs.Rows.{Tables}
 use Rattle.fglm.specs.RowState.{SoundRows}
 use Rattle.fglm.specs.Elimination.{LeftOf}
 use Rattle.fglm.specs.Steps.{Dependence, Scaled, Inserted}
-use Rattle.fglm.specs.ImageRows.{most_images, image_at, DivisorsFound, ImageRow}
+use Rattle.fglm.specs.ImageRows.{DivisorsFound, ImageRow}
 use Rattle.fglm.specs.WrittenLines.{WrittenLine}
 use Rattle.fglm.specs.Found.{found_lines, found_standard, PrintableLine}
 use Rattle.fglm.specs.Enumerable.{Enumerable, EnumerationInput, Enumerated}
@@ -64,21 +60,21 @@ use Rattle.fglm.proofs.Visits.{Setting, L, Stage, Progressed, progressed-none, t
 use Rattle.fglm.proofs.Visits.{visit-image, visit-line, visit-standard, visit-onward, visits-end}
 
 -- The parts of the state have their sizes.
-pub record Kept (p n : ℕ) (rs : Rows) (images ranks : List ℕ) (gs : List (ArrayVec LineTerm)) (standard ls : List Monomial) : Type 0 where
+pub record Kept (p n : ℕ) (rs : Rows) (images : List Coordinates) (ranks : List ℕ) (gs : List (ArrayVec LineTerm)) (standard ls : List Monomial) : Type 0 where
   pub lines : length ls ≤ most_lines
   pub line_count : length gs ≡ length ls
   pub printable : Each (λ (g : ArrayVec LineTerm). PrintableLine p n g.items) gs
   pub sound : SoundRows p rs
   pub rows_size : length rs.rows ≡ most_standard
   pub used : rs.used ≡ length standard
-  pub images_size : length images ≡ most_images
-  pub images_below : (k : ℕ) → k < length standard → Below p (image_at images k)
+  pub images_size : length images ≡ length standard
+  pub images_below : Each (Below p) images
   pub ranked : StandardRanked n standard ranks
   pub standard_held : Each (Padded n) standard
 
 module _ (t : Reciprocals) (n : ℕ) (s : List ℕ) (l : List Monomial) (tables : Tables) where
   -- The state stands for lines of the theory, and r is to be visited next, if there is one.
-  pub record Enumerating (rs : Rows) (images ranks : List ℕ) (gs : List (ArrayVec LineTerm)) (standard ls : List Monomial) (r : Option Monomial) : Type 0 where
+  pub record Enumerating (rs : Rows) (images : List Coordinates) (ranks : List ℕ) (gs : List (ArrayVec LineTerm)) (standard ls : List Monomial) (r : Option Monomial) : Type 0 where
     pub given : EnumerationInput t n s l tables
     pub size : length (listed n l) ≡ length l
     pub kept : Kept t.field.p n rs images ranks gs standard ls
@@ -87,7 +83,7 @@ module _ (t : Reciprocals) (n : ℕ) (s : List ℕ) (l : List Monomial) (tables 
         → (H : List (Line (ZMod t.field.p) (Row n))) × Progressed 𝓢 rs images standard ls gs H × Stage 𝓢 H (listed n standard) (option_map (row n) r)
 
   -- m is visited, after as many others as are counted.
-  pub record VisitedOnce (before : ℕ) (rs : Rows) (images ranks : List ℕ) (gs : List (ArrayVec LineTerm)) (standard ls : List Monomial) (m : Monomial) : Type 0 where
+  pub record VisitedOnce (before : ℕ) (rs : Rows) (images : List Coordinates) (ranks : List ℕ) (gs : List (ArrayVec LineTerm)) (standard ls : List Monomial) (m : Monomial) : Type 0 where
     pub given : EnumerationInput t n s l tables
     pub size : length (listed n l) ≡ length l
     pub kept : Kept t.field.p n rs images ranks gs standard ls
@@ -101,10 +97,10 @@ module _ {t : Reciprocals} {n : ℕ} {s : List ℕ} {l : List Monomial} {tables 
     setting : (prime : Prime t.field.p) (G : List (Line (ZMod t.field.p) (Row n))) → Enumerable t.field.p prime n l tables G → Setting t n s l tables
     setting prime G en = record { prime = prime; ranking = given.ranking; lines = G; enumerable = en; size = size }
 
-    pub enumerating-start : {rs : Rows} {images : List ℕ} {m : Monomial}
-        → rs.used ≡ 0 → length rs.rows ≡ most_standard → length images ≡ most_images
-        → m ≡ monomial most_variables (one most_variables) → Enumerating t n s l tables rs images [] [] [] [] (Some m)
-    enumerating-start {rs} {images} {m} e r i q = record {
+    pub enumerating-start : {rs : Rows} {m : Monomial}
+        → rs.used ≡ 0 → length rs.rows ≡ most_standard
+        → m ≡ monomial most_variables (one most_variables) → Enumerating t n s l tables rs [] [] [] [] [] (Some m)
+    enumerating-start {rs} {m} e r q = record {
       given = given;
       size = size;
       kept = record {
@@ -114,17 +110,17 @@ module _ {t : Reciprocals} {n : ℕ} {s : List ℕ} {l : List Monomial} {tables 
         sound = sound_none t.field.p rs e;
         rows_size = r;
         used = e;
-        images_size = i;
-        images_below = λ k u. absurd (omega arith);
+        images_size = omega arith;
+        images_below = tt;
         ranked = ranked-none n;
         standard_held = tt;
       };
       held = padded n (one n) (q ∙ one-held n given.variables.most);
-      stage = λ 𝓢. let w = progressed-none 𝓢 rs images e in
+      stage = λ 𝓢. let w = progressed-none 𝓢 rs e in
           ([], w.0, subst (λ x. Stage 𝓢 [] (listed n []) (Some x)) (sym (held-row n (one n) (q ∙ one-held n given.variables.most))) w.1);
     }
 
-  module _ {rs : Rows} {images ranks : List ℕ} {gs : List (ArrayVec LineTerm)} {standard ls : List Monomial} where
+  module _ {rs : Rows} {images : List Coordinates} {ranks : List ℕ} {gs : List (ArrayVec LineTerm)} {standard ls : List Monomial} where
     pub standard-fits : {r : Option Monomial} → Enumerating t n s l tables rs images ranks gs standard ls r → length standard ≤ most_standard
     standard-fits e = omega (arith, e.kept.used, e.kept.sound.size)
 
@@ -158,13 +154,10 @@ module _ {t : Reciprocals} {n : ℕ} {s : List ℕ} {l : List Monomial} {tables 
                 enough-room t prime (L first) rs (listed n standard) q.echelon q.used (row n m) w
                 (visit-image first q whole i).1 _ (answer-left t left prime (Some k) pivot)
 
-            standard-room : length standard < most_standard
-            standard-room = omega (arith, rows-room, e.kept.used)
-
             pub after-standard : {q : Reduced} → Scaled t x k q → {rs' : Rows} → Inserted t.field.p q rs rs'
-                → {images' : List ℕ} → RowPut images (length standard * most_standard) w images' → {u : ℕ} → (u ≡ rank_of n (row n m)) × Short n (row n m)
-                → VisitedOnce t n s l tables (length ls + length standard) rs' images' (ranks ++ (u ∷ [])) gs (standard ++ (m ∷ [])) ls m
-            after-standard {q} made {rs'} inserted {images'} stored {u} rank = record {
+                → {u : ℕ} → (u ≡ rank_of n (row n m)) × Short n (row n m)
+                → VisitedOnce t n s l tables (length ls + length standard) rs' (images ++ (w ∷ [])) (ranks ++ (u ∷ [])) gs (standard ++ (m ∷ [])) ls m
+            after-standard {q} made {rs'} inserted {u} rank = record {
               given = e.given;
               size = e.size;
               kept = record {
@@ -175,25 +168,20 @@ module _ {t : Reciprocals} {n : ℕ} {s : List ℕ} {l : List Monomial} {tables 
                 rows_size = ap (λ r. length r.rows) inserted.is ∙ length-set inserted.others.rows rs.used q ∙ inserted.cleared.size
                     ∙ e.kept.rows_size;
                 used = omega (arith, used, pushed-count standard m, e.kept.used);
-                images_size = stored.size ∙ e.kept.images_size;
-                images_below = λ j u. by_cases (dec_lt j (length standard)) (λ v. subst (Below t.field.p) (sym (before j v)) (e.kept.images_below j v))
-                    (λ v. let f : j ≡ length standard = omega (arith, u, v, pushed-count standard m) in subst (Below t.field.p) (sym (ap (image_at images') f ∙ stored.own)) i.below);
+                images_size = omega (arith, length-append images (w ∷ []), pushed-count standard m, e.kept.images_size);
+                images_below = each_last (Below t.field.p) images e.kept.images_below i.below;
                 ranked = ranked-more m e.kept.ranked rank;
                 standard_held = each_last (Padded n) standard e.kept.standard_held e.held;
               };
               count = omega (arith, pushed-count standard m);
               seen = λ 𝓢. let (H, o, v) = e.stage 𝓢 in
                   let (normal, image) = visit-image 𝓢 o whole i in
-                  let r = visit-standard 𝓢 o m v w image rs' (answer-inserted t left pivot made inserted e.kept.rows_size e.kept.sound rows-room 𝓢.prime) used
-                  images' before stored.own normal in
+                  let r = visit-standard 𝓢 o m v w image rs' (answer-inserted t left pivot made inserted e.kept.rows_size e.kept.sound rows-room 𝓢.prime) used e.kept.images_size normal in
                   (H, r.0, r.1);
             }
               where
                 used : rs'.used ≡ rs.used + 1
                 used = ap (λ r. r.used) inserted.is
-
-                before : (j : ℕ) → j < length standard → image_at images' j ≡ image_at images j
-                before j u = put-kept stored (omega (arith, standard-room, e.kept.images_size)) (j * most_standard) (omega arith)
 
           pub after_line : FirstPlace x.vector None → {c : Coordinates} → Dependence t.field.p x c → {g : ArrayVec LineTerm} → WrittenLine t.field.p n m c standard g.items
               → VisitedOnce t n s l tables (length ls + length standard) rs images ranks (gs ++ (g ∷ [])) standard (ls ++ (m ∷ [])) m
@@ -227,7 +215,7 @@ module _ {t : Reciprocals} {n : ℕ} {s : List ℕ} {l : List Monomial} {tables 
       stage = λ 𝓢. let (H, q, u) = v.seen 𝓢 in (H, q, visit-onward 𝓢 q u (option_map (row n) r) next.is_next);
     }
 
-  pub enumerating-stop : {rs : Rows} {images ranks : List ℕ} {ls : List Monomial} {r : LexBasis} → Enumerating t n s l tables rs images ranks r.lines.items r.standard.items ls None
+  pub enumerating-stop : {rs : Rows} {images : List Coordinates} {ranks : List ℕ} {ls : List Monomial} {r : LexBasis} → Enumerating t n s l tables rs images ranks r.lines.items r.standard.items ls None
       → Enumerated t n s l tables r
   unfolding found_lines found_standard rows_of setting
   enumerating-stop v = record {

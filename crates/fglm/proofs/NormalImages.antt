@@ -81,7 +81,7 @@ module _ (p : ℕ) (h : 1 < p) (n : ℕ) {lt : Row n → Row n → Type 0} (𝓟
     one-normal r (no_one none e) k u = ap (residue p h) (e k) ∙ residue-zero p h
         ∙ sym (δ-other (residue-ring p h) (monomials n) (get_or B k (one n)) (one n) (none k u)) ∙ row_one n 𝓟 ord G low B (one n) (cell_of p h t) clear lists filled gb k u
 
-    pub image-normal : {m : Monomial} {found : List ℕ} {standard : List Monomial} {r : Coordinates}
+    pub image-normal : {m : Monomial} {found : List Coordinates} {standard : List Monomial} {r : Coordinates}
         → ((s : ℕ) → s < length standard → NormalState (listed_at n standard s) (image_at found s)) → ImageRow p n m found standard t l r → NormalState (row n m) r
     image-normal {m} {found} {standard} {r} normal i = at i.rule
       where

@@ -27,7 +27,7 @@ pub divisor-place : {n : ℕ} (l : List Monomial) {m : Row n} (b : Row n) {i : �
 divisor-place {n} l b {i} (Some k) h e d q = refl
 divisor-place {n} l b {i} None h e d q = let (k, u, f) = place_of (one n) (d i h b e) in absurd (q k u f)
 
-module _ {p n : ℕ} {m : Monomial} {found : List ℕ} {standard : List Monomial} {t : Tables} {l : List Monomial} where
+module _ {p n : ℕ} {m : Monomial} {found : List Coordinates} {standard : List Monomial} {t : Tables} {l : List Monomial} where
   pub image-one : {r : Coordinates} → 1 < p → row n m ≡ one n → OneRow n l r → ImageRow p n m found standard t l r
   image-one h e (one_at k is f) = record {
     below = record { below = λ j. subst (◌< p) (sym (f j)) (indicator-below p j k h) };
@@ -40,6 +40,6 @@ module _ {p n : ℕ} {m : Monomial} {found : List ℕ} {standard : List Monomial
     rule = of_one e (no_one none f);
   }
 
-  pub image-product : {r w : Coordinates} (i s : ℕ) → i < n → s < length standard → row n m ≡ product n (variable n i) (listed_at n standard s)
-      → w ≡ image_at found s → Multiplied p t i w (length l) r → ImageRow p n m found standard t l r
-  image-product {r} i s hi hs e q a = record { below = a.below; zeros = a.zeros; rule = of_product i s hi hs e (subst (λ v. Multiplied p t i v (length l) r) q a).coordinates }
+  pub image-product : {r : Coordinates} (i s : ℕ) → i < n → s < length standard → row n m ≡ product n (variable n i) (listed_at n standard s)
+      → Multiplied p t i (image_at found s) (length l) r → ImageRow p n m found standard t l r
+  image-product i s hi hs e a = record { below = a.below; zeros = a.zeros; rule = of_product i s hi hs e a.coordinates }

@@ -19,7 +19,8 @@ use mathlib.Core.Option.{Option, none, some}
 use Prim.Native.Nat.{ℕ, ◌+◌, ◌*◌, ◌≤◌, ◌<◌}
 use native.Mathlib.Decide.{dec_lt}
 use native.Mathlib.Omega.{arith}
-use lib.ListN.{length, length-append}
+use lib.ListN.{length, length-append, get_or-append}
+use lib.Seq.{get_or_at}
 use Rattle.std.specs.Prelude as answer
 use Rattle.std.specs.Prelude.{Some, None}
 use Rattle.arrayvec.specs.ArrayVec.{ArrayVec}
@@ -70,7 +71,7 @@ use Rattle.coordinates.specs.Vectors as vectors
 use Rattle.coordinates.specs.declared.Coordinates.{Coordinates}
 use Rattle.multiplication.specs.Rows.{Tables}
 use Rattle.fglm.specs.RowState.{state_of}
-use Rattle.fglm.specs.ImageRows.{image_at, DivisorsFound, ImageRow}
+use Rattle.fglm.specs.ImageRows.{no_image, image_at, DivisorsFound, ImageRow}
 use Rattle.fglm.specs.WrittenLines.{WrittenLine}
 use Rattle.fglm.specs.Enumerable.{Enumerable}
 use Rattle.fglm.specs.declared.elimination.Rows.{Rows}
@@ -134,7 +135,7 @@ module _ {t : Reciprocals} {n : ℕ} {s : List ℕ} {l : List Monomial} {tables 
   Stage H B None = AllSeen n 𝓥 L lt H B
 
   -- The state stands for lines H and the standard monomials.
-  pub record Progressed (rs : Rows) (images : List ℕ) (standard ls : List Monomial) (gs : List (ArrayVec LineTerm)) (H : List (Line F (Row n))) : Type 0 where
+  pub record Progressed (rs : Rows) (images : List Coordinates) (standard ls : List Monomial) (gs : List (ArrayVec LineTerm)) (H : List (Line F (Row n))) : Type 0 where
     pub echelon : EchelonOf p h field L (state_of p h rs) (listed n standard)
     pub used : rs.used ≡ length (listed n standard)
     pub count : length (listed n standard) ≡ length standard
@@ -143,7 +144,7 @@ module _ {t : Reciprocals} {n : ℕ} {s : List ℕ} {l : List Monomial} {tables 
     pub lead_count : length H ≡ length ls
     pub lines : lines_of p h n (terms_of_lines n gs) ≡ in_order field (monomials n) (listed n standard) H
 
-  module _ {rs : Rows} {images : List ℕ} {standard ls : List Monomial} {gs : List (ArrayVec LineTerm)} {H : List (Line F (Row n))} (q : Progressed rs images standard ls gs H) where
+  module _ {rs : Rows} {images : List Coordinates} {standard ls : List Monomial} {gs : List (ArrayVec LineTerm)} {H : List (Line F (Row n))} (q : Progressed rs images standard ls gs H) where
     abbrev B : List (Row n)
     B = listed n standard
 
@@ -198,19 +199,19 @@ module _ {t : Reciprocals} {n : ℕ} {s : List ℕ} {l : List Monomial} {tables 
           new : Line F (Row n)
           new = (row n m, negate (modulo p h) (polynomial_of B (vectors.vector p h c)))
 
-      pub visit-standard : (rs' : Rows) → answer t prime rs w ≡ inr (state_of p h rs') → rs'.used ≡ rs.used + 1
-          → (images' : List ℕ) → ((k : ℕ) → k < length standard → image_at images' k ≡ image_at images k) → image_at images' (length standard) ≡ w
-          → NormalAt (row n m) w
-          → Progressed rs' images' (standard ++ (m ∷ [])) ls gs H × Seen n 𝓥 L lt (UpTo lt (row n m)) H (listed n (standard ++ (m ∷ [])))
-      visit-standard rs' answered used images' before own normal = (
+      pub visit-standard : (rs' : Rows) → answer t prime rs w ≡ inr (state_of p h rs') → rs'.used ≡ rs.used + 1 → length images ≡ length standard → NormalAt (row n m) w
+          → Progressed rs' (images ++ (w ∷ [])) (standard ++ (m ∷ [])) ls gs H × Seen n 𝓥 L lt (UpTo lt (row n m)) H (listed n (standard ++ (m ∷ [])))
+      visit-standard rs' answered used size normal = (
         record {
           echelon = subst (EchelonOf p h field L (state_of p h rs')) (sym more) told.0;
           used = used ∙ omega (arith, q.used, ap length more, length-append B (row n m ∷ []));
           count = ap length more ∙ omega (arith, q.count, pushed-count standard m, length-append B (row n m ∷ []));
           normal = λ j u. by_cases (dec_lt j (length standard))
-              (λ i. subst (λ x. NormalAt x (image_at images' j)) (sym (pushed-before standard m n j i)) (subst (NormalAt (listed_at n standard j)) (sym (before j i)) (q.normal j i)))
+              (λ i. subst (λ x. NormalAt x (image_at (images ++ (w ∷ [])) j)) (sym (pushed-before standard m n j i))
+              (subst (NormalAt (listed_at n standard j)) (sym (get_or-append images (w ∷ []) no_image j (omega (arith, i, size)))) (q.normal j i)))
               (λ i. let e : j ≡ length standard = omega (arith, u, pushed-count standard m) in
-              subst (λ x. NormalAt x (image_at images' j)) (sym (pushed-last standard m n j e)) (subst (NormalAt (row n m)) (sym (ap (image_at images') e ∙ own)) normal));
+              subst (λ x. NormalAt x (image_at (images ++ (w ∷ [])) j)) (sym (pushed-last standard m n j e))
+              (subst (NormalAt (row n m)) (sym (get_or_at images w [] no_image j (size ∙ sym e))) normal));
           leads = q.leads;
           lead_count = q.lead_count;
           lines = q.lines ∙ sym (ap (λ C. in_order field (monomials n) C H) more
@@ -241,9 +242,9 @@ module _ {t : Reciprocals} {n : ℕ} {s : List ℕ} {l : List Monomial} {tables 
         (seen-outcome n (ground p prime n) (grevlex-order n) ord (next n s) (next-lex n s ranking) G en.low en.groebner (listed n l) en.lists H B v))
 
   -- At first nothing is found.
-  pub progressed-none : (rs : Rows) (images : List ℕ) → rs.used ≡ 0 → Progressed rs images [] [] [] [] × Stage [] (listed n []) (Some (one n))
+  pub progressed-none : (rs : Rows) → rs.used ≡ 0 → Progressed rs [] [] [] [] [] × Stage [] (listed n []) (Some (one n))
   unfolding rows_of lines_of terms_of_lines in_order monomials
-  progressed-none rs images e = (
+  progressed-none rs e = (
     record {
       echelon = subst (λ r. EchelonOf p h field L r []) (sym (state-none p h rs e)) (no-rows-yet p h field L);
       used = e;

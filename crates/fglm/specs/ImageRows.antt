@@ -1,13 +1,12 @@
 -- Inner contracts. The row of a monomial, from the rows of the standard monomials found before.
---   most_images           the number of the coefficients of the rows of all standard monomials
---   image_at l s          of these coefficients, the row of the standard monomial at place s
---   OneRow n l r          r is one at the place of 1 in the list l, and zero elsewhere
---   DivisorsFound n l m   m over any of its variables is in the list l
---   ImageInput            what the row of m asks of the rows, the ranks and the tables
---   ImageRule             the row of m is that of 1, or comes from that of a standard monomial
---   ImageRow              so it is, its entries are below p, and zero past those of the list l
-use Rattle.std.specs.Prelude.{◌≡◌, List, ℕ, ◌*◌, ◌≤◌, ◌<◌, length, None}
-use Rattle.lists.specs.Lists.{◌∈◌}
+--   no_image, image_at l s   the row of the standard monomial at place s; no_image stands past the end
+--   OneRow n l r             r is one at the place of 1 in the list l, and zero elsewhere
+--   DivisorsFound n l m      m over any of its variables is in the list l
+--   ImageInput               what the row of m asks of the rows, the ranks and the tables
+--   ImageRule                the row of m is that of 1, or comes from that of a standard monomial
+--   ImageRow                 so it is, its entries are below p, and zero past those of the list l
+use Rattle.std.specs.Prelude.{◌≡◌, List, [], ℕ, ◌≤◌, ◌<◌, length, get_or, None}
+use Rattle.lists.specs.Lists.{◌∈◌, Each}
 use Rattle.residue.specs.Field.{modulo}
 use Rattle.monomial.specs.Rows.{Row, one, product}
 use Rattle.monomial.specs.Quotients.{variable}
@@ -18,17 +17,16 @@ use Rattle.groebner.specs.MultiplicationRows.{times_variable}
 use Rattle.lines.specs.Sizes.{most_standard}
 use Rattle.staircase.specs.Listed.{listed, listed_at, PlaceAt, Place}
 use Rattle.coordinates.specs.Vectors.{coordinate, indicator, Below, coordinates_of}
-use Rattle.coordinates.specs.Rows.{row_in}
 use Rattle.coordinates.specs.declared.Coordinates.{Coordinates}
 use Rattle.multiplication.specs.Rows.{cell_of, Tables, most_cells, tables_of, AllBelow}
 
--- The number of the coefficients of the rows of all standard monomials.
-abbrev pub most_images : ℕ
-most_images = most_standard * most_standard
+-- What stands past the end of a list of rows.
+abbrev pub no_image : Coordinates
+no_image = record { c = [] }
 
 -- The row of the standard monomial at place s.
-abbrev pub image_at : List ℕ → ℕ → Coordinates
-image_at l s = row_in l (s * most_standard)
+abbrev pub image_at : List Coordinates → ℕ → Coordinates
+image_at l s = get_or l s no_image
 
 -- r is one at the place of 1 in the list, and zero elsewhere; zero where 1 is not in it.
 pub data OneRow (n : ℕ) (l : List Monomial) (r : Coordinates) : Type 0 where
@@ -39,18 +37,18 @@ pub data OneRow (n : ℕ) (l : List Monomial) (r : Coordinates) : Type 0 where
 abbrev pub DivisorsFound : (n : ℕ) → List Monomial → Row n → Type 0
 DivisorsFound n l m = (i : ℕ) → i < n → (b : Row n) → m ≡ product n (variable n i) b → b ∈ listed n l
 
--- What the row of m asks: arrays of their lengths with entries below p, the ranks of the standard monomials, and m over any of its variables among these.
-pub record ImageInput (p n : ℕ) (m : Monomial) (cells images ranks : List ℕ) (standard l : List Monomial) : Type 0 where
+-- What the row of m asks: rows with entries below p and ranks, as many as standard monomials, and m over any of its variables among these.
+pub record ImageInput (p n : ℕ) (m : Monomial) (cells : List ℕ) (images : List Coordinates) (ranks : List ℕ) (standard l : List Monomial) : Type 0 where
   pub few : length l ≤ most_standard
   pub cells_size : length cells ≡ most_cells
   pub cells_below : AllBelow p (tables_of cells)
   pub standard_few : length standard ≤ most_standard
-  pub images_size : length images ≡ most_images
-  pub images_below : (s : ℕ) → s < length standard → Below p (image_at images s)
+  pub images_size : length images ≡ length standard
+  pub images_below : Each (Below p) images
   pub ranked : RanksOf n (listed n standard) (length standard) ranks
   pub divisors : DivisorsFound n standard (row n m)
 
-module _ (p n : ℕ) (m : Monomial) (found : List ℕ) (standard : List Monomial) (t : Tables) (l : List Monomial) (r : Coordinates) where
+module _ (p n : ℕ) (m : Monomial) (found : List Coordinates) (standard : List Monomial) (t : Tables) (l : List Monomial) (r : Coordinates) where
   -- r is the row of 1, or that of x_i times a standard monomial by the rows of the tables.
   pub data ImageRule : Type 0 where
     of_one : row n m ≡ one n → OneRow n l r → ImageRule

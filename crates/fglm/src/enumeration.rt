@@ -4,11 +4,11 @@ ghost use Rattle.multiplication.specs.Rows.{most_cells, tables_of};
 ghost use Rattle.fglm.specs.Enumerable.{EnumerationInput, Enumerated};
 
 use crate::elimination::Rows;
-use crate::image::{MAX_IMAGES, image_of};
+use crate::image::image_of;
 use crate::lex_basis::LexBasis;
 use crate::line::line_of;
 use arrayvec::ArrayVec;
-use coordinates::rows::put_row;
+use coordinates::Coordinates;
 use lines::sizes::MAX_STANDARD;
 use monomial::Monomial;
 use monomial::count::Variables;
@@ -32,7 +32,7 @@ pub fn enumerate(
 {
     let field = reciprocals.field;
     let mut rows = Rows::none();
-    let mut images: [u16; MAX_IMAGES] = [0; MAX_IMAGES];
+    let mut images: ArrayVec<Coordinates, MAX_STANDARD> = ArrayVec::new();
     let mut ranks: ArrayVec<u64, MAX_STANDARD> = ArrayVec::new();
     let mut lex = LexBasis::default();
     let mut leads = Leads::new();
@@ -57,7 +57,7 @@ pub fn enumerate(
             continue;
         };
         rows = rows.insert(x.scaled(pivot, reciprocals), field);
-        put_row(&mut images, lex.standard.len() * MAX_STANDARD, w);
+        images.push(w);
         ranks.push(rank(v, n));
         lex.standard.push(v);
         m = next(&leads, v, ranking, n);

@@ -5,8 +5,6 @@ ghost use Rattle.multiplication.specs.Rows.{tables_of};
 ghost use Rattle.fglm.specs.ImageRows.{OneRow, ImageInput, ImageRow};
 
 use coordinates::Coordinates;
-use coordinates::rows::row_at;
-use lines::sizes::MAX_STANDARD;
 use monomial::Monomial;
 use monomial::count::Variables;
 use monomial::rank::{rank, rank_place};
@@ -14,9 +12,6 @@ use monomial::variable::{first_variable, over_variable};
 use multiplication::rows::times_variable;
 use residue::field::PrimeField;
 use staircase::place::place_of;
-
-// The coefficients of the rows of all standard monomials: coefficient k of the row of the one at place s at place s * MAX_STANDARD + k.
-pub const MAX_IMAGES: usize = MAX_STANDARD * MAX_STANDARD;
 
 // The row of 1: zero where 1 is not listed.
 fn one_row(irreducibles: &[Monomial], n: Variables) -> Coordinates
@@ -29,10 +24,10 @@ fn one_row(irreducibles: &[Monomial], n: Variables) -> Coordinates
     }
 }
 
-// The row of m: that of 1, or x_i times that of a standard monomial.
+// The row of m: that of 1, or x_i times that of a standard monomial. The image at place s is the row of the standard monomial at place s.
 pub fn image_of(
     cells: &[u16],
-    images: &[u16],
+    images: &[Coordinates],
     ranks: &[u64],
     m: Monomial,
     standard: &[Monomial],
@@ -49,6 +44,5 @@ pub fn image_of(
     prove!(i < n.count());
     let b = over_variable(m, i, n);
     let s = rank_place(&ranks[..standard.len()], rank(b, n)).unwrap();
-    let w = row_at(images, s * MAX_STANDARD);
-    times_variable(cells, i, w, irreducibles.len(), field)
+    times_variable(cells, i, images[s], irreducibles.len(), field)
 }

@@ -1,5 +1,5 @@
 -- `enumerate` meets its contract. The loop's invariant: the state stands for lines and standard monomials of the theory, and m is the next to visit.
-use Prim.Native.Nat.{ℕ, ◌+◌, ◌*◌, ◌<◌}
+use Prim.Native.Nat.{ℕ, ◌+◌, ◌<◌}
 use mathlib.Core.Path.{◌≡◌, subst}
 use mathlib.Core.List.{List}
 use Rattle.std.specs.Prelude.{Option, Some, None}
@@ -14,14 +14,14 @@ use Rattle.lines.specs.declared.line.LineTerm.{LineTerm}
 use Rattle.staircase.specs.Listed.{listed}
 use Rattle.staircase.proofs.ArrayRows.{rows-length}
 use Rattle.coordinates.specs.Vectors.{FullLength, FirstPlace}
-use Rattle.coordinates.specs.Rows.{RowPut}
+use Rattle.coordinates.specs.declared.Coordinates.{Coordinates}
 use Rattle.multiplication.specs.Rows.{tables_of}
 use Rattle.fglm.specs.ImageRows.{ImageRow}
 use Rattle.fglm.specs.declared.elimination.Rows.{Rows}
 use Rattle.fglm.proofs.Adding.{row_scaled}
 use Rattle.fglm.proofs.EnumerationLoop as loop
 use Rattle.fglm.proofs.EnumerationLoop.{Enumerating, VisitedOnce}
-use Rattle.fglm.proofs.enumeration.enumerate.Goals.{After-image_of-w, After-put_row, After-push-in_default-found, After-push-in-Some-2, At-loop-m, In-Some, In-Some-found, In_default-found, Start}
+use Rattle.fglm.proofs.enumeration.enumerate.Goals.{After-image_of-w, After-push-in_default-found, After-push-in-Some-3, At-loop-m, In-Some, In-Some-found, In_default-found, Start}
 use Rattle.fglm.proofs.enumeration.enumerate.Goals as goal
 
 size : (c : Start) → length (listed c.args.n c.args.irreducibles.now) ≡ length c.args.irreducibles.now
@@ -31,14 +31,14 @@ size c = rows-length _ c.args.irreducibles.now
 abbrev State : At-loop-m → Option Monomial → Type 0
 State c m = let a = c.args in let x = c.loop-m in
     Enumerating a.reciprocals a.n (take a.n a.ranking.variables) a.irreducibles.now (tables_of a.cells.now)
-    x.rows x.images x.ranks.items x.lex.lines.items x.lex.standard.items x.leads.items m
+    x.rows x.images.items x.ranks.items x.lex.lines.items x.lex.standard.items x.leads.items m
 
 -- The monomial to visit.
 head : (c : In-Some) → State (goal.at.In-Some c).At-loop-m (Some c.in-Some.v)
 head c = subst (State (goal.at.In-Some c).At-loop-m) c.in-Some.is c.loop-m.invariant
 
 -- What holds after the visit.
-abbrev Visited : In-Some → Rows → (images ranks : List ℕ) → List (ArrayVec LineTerm) → (standard leads : List Monomial) → Type 0
+abbrev Visited : In-Some → Rows → List Coordinates → (ranks : List ℕ) → List (ArrayVec LineTerm) → (standard leads : List Monomial) → Type 0
 Visited c rows images ranks lines standard leads = let a = c.args in let x = c.loop-m in
     VisitedOnce a.reciprocals a.n (take a.n a.ranking.variables) a.irreducibles.now (tables_of a.cells.now)
     (length x.leads.items + length x.lex.standard.items) rows images ranks lines standard leads c.in-Some.v
@@ -48,8 +48,8 @@ whole c = search (c.image_of-w.type_inv, length-mapped, rules)
 
 -- Its entries come from the monomials before.
 image : (c : After-image_of-w) → let a = c.args in
-    ImageRow a.reciprocals.field.p a.n c.in-Some.v c.loop-m.images c.loop-m.lex.standard.items (tables_of a.cells.now) a.irreducibles.now c.image_of-w.result
-image c = rw c.deref-in-Some.ensures.0 at c.image_of-w.ensures
+    ImageRow a.reciprocals.field.p a.n c.in-Some.v c.loop-m.images.items c.loop-m.lex.standard.items (tables_of a.cells.now) a.irreducibles.now c.image_of-w.result
+image c = rw (c.deref.ensures.0, c.deref-in-Some-2.ensures.0) at c.image_of-w.ensures
 
 -- The vector has a pivot.
 pivot : (c : In-Some-found) → FirstPlace c.residual-x.result.vector (Some c.in-Some-found.pivot)
@@ -64,7 +64,7 @@ none c = subst (FirstPlace _) c.in_default-found.is c.found.ensures
 
 -- A line is written.
 line : (c : After-push-in_default-found) → let x = c.loop-m in
-    Visited (goal.at.After-push-in_default-found c).In-Some x.rows x.images x.ranks.items c.push.new.self.items x.lex.standard.items c.push-in_default-found.new.self.items
+    Visited (goal.at.After-push-in_default-found c).In-Some x.rows x.images.items x.ranks.items c.push.new.self.items x.lex.standard.items c.push-in_default-found.new.self.items
 line c =
     let at = goal.at.After-push-in_default-found c in
     rw (c.push.ensures.items, c.push-in_default-found.ensures.items)
@@ -78,28 +78,25 @@ rows-room c = loop.rows-room (at-pivot c) (whole (goal.at.In-Some-found c).After
 room : (c : In-Some-found) → length c.loop-m.lex.standard.items < most_standard
 room c = omega (arith, rows-room c, (at-pivot c).kept.used)
 
-row-put : (c : After-put_row) → RowPut c.loop-m.images (length c.loop-m.lex.standard.items * most_standard) c.image_of-w.result c.put_row.new.cells
-row-put c = let e : c.len.result ≡ length c.loop-m.lex.standard.items = omega arith in rw e at c.put_row.ensures
-
 -- There is one standard monomial more.
-standard : (c : After-push-in-Some-2) → let x = c.loop-m in
-    Visited (goal.at.After-push-in-Some-2 c).In-Some c.insert-rows.result c.put_row.new.cells c.push-in-Some.new.self.items x.lex.lines.items c.push-in-Some-2.new.self.items x.leads.items
+standard : (c : After-push-in-Some-3) → let x = c.loop-m in
+    Visited (goal.at.After-push-in-Some-3 c).In-Some c.insert-rows.result c.push-in-Some.new.self.items c.push-in-Some-2.new.self.items x.lex.lines.items c.push-in-Some-3.new.self.items x.leads.items
 standard c =
-    let at = goal.at.After-push-in-Some-2 c in
-    rw (c.push-in-Some.ensures.items, c.push-in-Some-2.ensures.items)
+    let at = goal.at.After-push-in-Some-3 c in
+    rw (c.push-in-Some.ensures.items, c.push-in-Some-2.ensures.items, c.push-in-Some-3.ensures.items)
     (loop.after-standard (at-pivot at.In-Some-found) (whole at.After-image_of-w) (image at.After-image_of-w) c.residual-x.ensures (pivot at.In-Some-found)
-    c.scaled.ensures c.insert-rows.ensures (row-put at.After-put_row) c.rank.ensures)
+    c.scaled.ensures c.insert-rows.ensures c.rank.ensures)
 
 pub loop-m-init : goal.loop-m-init
 loop-m-init c =
     let rows = c.none-rows in
     let (_, input) = c.requires in
-    rw (c.new-ranks.ensures, c.default-lex.ensures.0, c.default-lex.ensures.1, c.new-leads.ensures)
+    rw (c.new-images.ensures, c.new-ranks.ensures, c.default-lex.ensures.0, c.default-lex.ensures.1, c.new-leads.ensures)
     (loop.enumerating-start input (size (goal.at.loop-m-init c).Start) rows.ensures
-    (search (rows.type_inv, length-mapped, rules)) (search rules) c.one.ensures)
+    (search (rows.type_inv, length-mapped, rules)) c.one.ensures)
 
 pub image_of-w-requires : goal.image_of-w-requires
-image_of-w-requires c = let e = head (goal.at.image_of-w-requires c).In-Some in let (cells, _) = c.requires in rw (c.deref.ensures.0, c.deref-in-Some.ensures.0) (record {
+image_of-w-requires c = let e = head (goal.at.image_of-w-requires c).In-Some in let (cells, _) = c.requires in rw (c.deref.ensures.0, c.deref-in-Some.ensures.0, c.deref-in-Some-2.ensures.0) (record {
   few = e.given.few;
   cells_size = cells;
   cells_below = e.given.below;
@@ -133,14 +130,14 @@ insert-rows-requires c =
     let found = (goal.at.insert-rows-requires c).In-Some-found in
     ((at-pivot found).kept.sound, row_scaled _ c.residual-x.ensures (pivot found) c.scaled.ensures, rows-room found)
 
-pub put_row-requires : goal.put_row-requires
-put_row-requires c = omega (arith, (at-pivot (goal.at.put_row-requires c).In-Some-found).kept.images_size, room (goal.at.put_row-requires c).In-Some-found)
-
 pub push-requires-in-Some : goal.push-requires-in-Some
-push-requires-in-Some c = omega (arith, room (goal.at.push-requires-in-Some c).In-Some-found, (at-pivot (goal.at.push-requires-in-Some c).In-Some-found).kept.ranked.size)
+push-requires-in-Some c = let found = (goal.at.push-requires-in-Some c).In-Some-found in (omega arith, omega (arith, room found, (at-pivot found).kept.images_size))
 
 pub push-requires-in-Some-2 : goal.push-requires-in-Some-2
-push-requires-in-Some-2 c = (omega arith, room (goal.at.push-requires-in-Some-2 c).In-Some-found)
+push-requires-in-Some-2 c = let found = (goal.at.push-requires-in-Some-2 c).In-Some-found in (omega arith, omega (arith, room found, (at-pivot found).kept.ranked.size))
+
+pub push-requires-in-Some-3 : goal.push-requires-in-Some-3
+push-requires-in-Some-3 c = (omega arith, room (goal.at.push-requires-in-Some-3 c).In-Some-found)
 
 pub next-m-requires-in-Some : goal.next-m-requires-in-Some
 next-m-requires-in-Some c = let e = at-pivot (goal.at.next-m-requires-in-Some c).In-Some-found in
@@ -149,10 +146,10 @@ next-m-requires-in-Some c = let e = at-pivot (goal.at.next-m-requires-in-Some c)
 pub loop-m-smaller : goal.loop-m-smaller
 loop-m-smaller c =
     let at = goal.at.loop-m-smaller c in
-    omega (arith, (standard at.After-push-in-Some-2).count, loop.next-few (at-pivot at.In-Some-found))
+    omega (arith, (standard at.After-push-in-Some-3).count, loop.next-few (at-pivot at.In-Some-found))
 
 pub loop-m-preserved : goal.loop-m-preserved
-loop-m-preserved c = loop.onward (standard (goal.at.loop-m-preserved c).After-push-in-Some-2) (rw c.deref-in-Some-2.ensures.0 at c.next-m-in-Some.ensures)
+loop-m-preserved c = loop.onward (standard (goal.at.loop-m-preserved c).After-push-in-Some-3) (rw c.deref-in-Some-3.ensures.0 at c.next-m-in-Some.ensures)
 
 pub returns : goal.returns
 returns c = loop.enumerating-stop (rw c.in_default.is at c.loop-m.invariant)

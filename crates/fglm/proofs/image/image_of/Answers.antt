@@ -1,8 +1,10 @@
 -- `image_of` meets its contract.
-use mathlib.Core.Path.{◌≡◌, sym, ◌∙◌, ap, subst}
+use mathlib.Core.Path.{◌≡◌, sym, ◌∙◌, ap}
 use Prim.Native.Nat.{◌<◌}
 use native.Mathlib.Omega.{arith}
 use lib.ListN.{length}
+use Rattle.lists.proofs.EachElement.{each_at}
+use Rattle.lists.proofs.Elements.{element-in}
 use Rattle.monomial.specs.Rows.{product}
 use Rattle.monomial.specs.Quotients.{variable}
 use Rattle.monomial.specs.Represented.{row}
@@ -13,8 +15,9 @@ use Rattle.staircase.specs.Listed.{listed, PlaceAt, Place}
 use Rattle.staircase.proofs.ArrayRows.{rows-length}
 use Rattle.staircase.proofs.RankedLists.{rank-place}
 use Rattle.coordinates.specs.Vectors.{Below}
+use Rattle.fglm.specs.ImageRows.{no_image}
 use Rattle.fglm.proofs.RowImages.{divisor-place, image-one, image-product}
-use Rattle.fglm.proofs.image.image_of.Goals.{After-over_variable-b, After-rank_place, After-row_at-w, After-unwrap-s, In-Some}
+use Rattle.fglm.proofs.image.image_of.Goals.{After-over_variable-b, After-rank_place, After-unwrap-s, In-Some}
 use Rattle.fglm.proofs.image.image_of.Goals as goal
 
 -- The first variable of m.
@@ -50,27 +53,29 @@ returns-in_default c = image-one c.args.field.prime.prime.above_one (first-none 
 pub prove-unreachable-requires : goal.prove-unreachable-requires
 prove-unreachable-requires c = omega (arith, (first (goal.at.prove-unreachable-requires c).In-Some).within)
 
-pub over_variable-b-requires : goal.over_variable-b-requires
-over_variable-b-requires c = let f = first (goal.at.over_variable-b-requires c).In-Some in (f.within, f.found)
+-- So it is a place of an image.
+imaged : (c : After-unwrap-s) → c.unwrap-s.result < length c.args.images.now
+imaged c = omega (arith, inside c, c.requires.images_size)
 
-pub overflow_mul-s : goal.overflow_mul-s
-overflow_mul-s c = omega (arith, inside c, c.requires.standard_few)
+pub offset_bounds-images-s : goal.offset_bounds-images-s
+offset_bounds-images-s c = omega (arith, inside c, c.requires.standard_few)
 
-pub row_at-w-requires : goal.row_at-w-requires
-row_at-w-requires c = let g = c.requires in omega (arith, inside c, g.images_size, g.standard_few)
-
--- The row that was found.
-image-below : (c : After-row_at-w) → Below c.args.field.p c.row_at-w.result
-image-below c = subst (Below c.args.field.p) (sym c.row_at-w.ensures) (c.requires.images_below _ (inside (goal.at.After-row_at-w c).After-unwrap-s))
+pub bounds-images-s : goal.bounds-images-s
+bounds-images-s c = imaged c
 
 pub times_variable-requires : goal.times_variable-requires
-times_variable-requires c = let g = c.requires in
-    (record { size = g.cells_size; below = g.cells_below }, omega (arith, first (goal.at.times_variable-requires c).In-Some), g.few, image-below c)
+times_variable-requires c =
+    let g = c.requires in
+    let at = goal.at.times_variable-requires c in (
+      record { size = g.cells_size; below = g.cells_below },
+      omega (arith, first at.In-Some),
+      g.few,
+      each_at (Below c.args.field.p) c.args.images.now g.images_below (element-in no_image c.args.images.now _ (imaged at.After-unwrap-s)),
+    )
 
 pub returns : goal.returns
 returns c =
     let n = c.args.n in
     let at = goal.at.returns c in
     image-product _ _ (first at.In-Some).within (inside at.After-unwrap-s)
-    (split at.After-over_variable-b ∙ ap (product n (variable n c.in-Some.i)) (sym (place at.After-unwrap-s).found))
-    c.row_at-w.ensures c.times_variable.ensures
+    (split at.After-over_variable-b ∙ ap (product n (variable n c.in-Some.i)) (sym (place at.After-unwrap-s).found)) c.times_variable.ensures
