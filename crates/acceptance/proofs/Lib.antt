@@ -3,9 +3,7 @@
 --   WholeOutcome   what the outcome of checks 12 to 15 says of the lines
 --   CheckedSound   a basis of the code that passed checks 2 to 11 is sound
 --   LaterChecks    the outcome of checks 12 to 15 with those that come after them
---   ReadBasis      the basis that was read from a text
 pub mod WholeOutcome
 pub mod CheckedSound
 pub mod WholeChecks
 pub mod LaterChecks
-pub mod ReadBasis

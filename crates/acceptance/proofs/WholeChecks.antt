@@ -45,7 +45,7 @@ use Rattle.groebner.proofs.RisingLists.{rising-once}
 use Rattle.groebner.proofs.Next.{next-lex, variables-ranking}
 use Rattle.groebner.proofs.IrreducibleList.{Counts, irreducibles-of-lines}
 use Rattle.lines.specs.Sizes.{most_standard}
-use Rattle.lines.specs.Bases.{StoredBasis}
+use Rattle.lines.specs.declared.StoredBasis.{StoredBasis}
 use Rattle.staircase.specs.StoredLines.{stored_lines}
 use Rattle.staircase.specs.Leads.{rows_of, LeadsOf, multiple, Powers, CountIs}
 use Rattle.staircase.specs.Places.{FirstDivided}
@@ -53,7 +53,6 @@ use Rattle.staircase.specs.Sound.{Sound}
 use Rattle.staircase.specs.Conditions.{Large, Failing}
 use Rattle.staircase.specs.Listed.{listed, ListsIrreducibles}
 use Rattle.staircase.proofs.ArrayRows.{rows-length}
-use Rattle.staircase.proofs.LineElements.{WithinArrays}
 use Rattle.staircase.proofs.ClearLines.{divided-clear}
 use Rattle.staircase.proofs.PowersOfVariables.{power-of-leads}
 use Rattle.staircase.proofs.SoundLines.{sound-lines}
@@ -114,14 +113,14 @@ module _ (b : StoredBasis) where
   pub lines_clear : LeadsPass b → (h : 1 < b.p) → Clear (modulo b.p h) (monomials b.n) (stored_lines b h)
   lines_clear pass h = (divided-clear (modulo b.p h) (monomials b.n) (stored_lines b h)).0 (pass h).0
 
-  module _ (sound : Sound b) (filled : WithinArrays b) (pass : LeadsPass b) (l : List Monomial) (irreducible : ListsIrreducibles b l) where
+  module _ (sound : Sound b) (pass : LeadsPass b) (l : List Monomial) (irreducible : ListsIrreducibles b l) where
     pub not-large : (h : 1 < b.p) → ¬ Large b.n (stored_lines b h)
     not-large h (k, e, once, each) =
         omega (arith, pigeon k (listed b.n l) once (λ m q. (irreducible.lists h).all m (each_at _ k each q)), e, rows-length b.n l, irreducible.few)
 
     -- The least common multiples of leading monomials are low.
     pairable : Pairable b
-    pairable = let h = sound.modulus.prime.above_one in record { sound = sound; low = low-pairs b sound filled.lines h (pass h).0 (pass h).1 (not-large h) }
+    pairable = let h = sound.modulus.prime.above_one in record { sound = sound; low = low-pairs b sound h (pass h).0 (pass h).1 (not-large h) }
 
     pub whole-failing : (k : ℕ) → FirstFailing b (Some k) → Refuses (record { refusal = NotGroebner; line = k })
     whole-failing k first h = inr ((pass h).0, inr (λ z. z (pass h).1, inr (not-large h, inl (k, (first h).0, (first h).1, refl))))
@@ -130,7 +129,7 @@ module _ (b : StoredBasis) where
     prime h = record { above_one = h; no_divisor = sound.modulus.prime.no_divisor }
 
     abbrev lines : (h : 1 < b.p) → Lines (modulo b.p h) (Grevlex b.n) (stored_lines b h)
-    lines h = sound-lines b sound filled h
+    lines h = sound-lines b sound h
 
     module _ (a : Bool) (cells : List ℕ) (acceptance : Acceptance b l a (tables_of cells)) where
       -- 15 speaks of no line exactly if the answer of `is_groebner` is yes.

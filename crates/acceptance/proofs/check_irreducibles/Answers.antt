@@ -3,31 +3,21 @@ use mathlib.Core.Path.{◌≡◌, sym, ◌∙◌}
 use native.Mathlib.Omega.{arith}
 use Rattle.std.specs.Prelude.{Some, None}
 use Rattle.std.proofs.lemmas.Result.{err_from_is_err_and}
-use Rattle.lines.specs.Bases.{StoredBasis, basis_in}
 use Rattle.staircase.specs.Listed.{ListsIrreducibles}
-use Rattle.staircase.proofs.LineElements.{WithinArrays}
-use Rattle.staircase.proofs.StoredBasis.{held-filled}
 use Rattle.staircase.proofs.SoundLines.{sound-lines}
 use Rattle.staircase.proofs.IrreducibleLists.{sorted-irreducibles}
 use Rattle.multiplication.proofs.AllRows.{no-rows-length}
 use Rattle.acceptance.proofs.WholeChecks.{says-refused, whole-large, lines_clear, whole-failing, failing, whole-passes}
-use Rattle.acceptance.proofs.check_irreducibles.Goals.{After-by_grevlex-s, In_ok-l, Start}
+use Rattle.acceptance.proofs.check_irreducibles.Goals.{After-by_grevlex-s, In_ok-l}
 use Rattle.acceptance.proofs.check_irreducibles.Goals as goal
-
--- The basis that is lent.
-abbrev lent : Start → StoredBasis
-lent c = basis_in c.args.shape c.args.counts.now c.args.coefficients.now c.args.exponents.now
-
-filled : (s : Start) → WithinArrays (lent s)
-filled s = held-filled _ _ _ _ s.requires.1.basis.sound
 
 -- The list of the irreducible monomials.
 counted : (c : In_ok-l) → c.list_irreducibles.result ≡ Some c.in_ok-l.l
 counted c = grind arith
 
-irreducible : (c : After-by_grevlex-s) → ListsIrreducibles (lent (goal.at.After-by_grevlex-s c).Start) c.by_grevlex-s.result.items
+irreducible : (c : After-by_grevlex-s) → ListsIrreducibles c.args.basis.now c.by_grevlex-s.result.items
 irreducible c =
-    let b = c.requires.1.basis in
+    let b = c.requires.1 in
     let (all, few) = rw (counted (goal.at.After-by_grevlex-s c).In_ok-l) at c.list_irreducibles.ensures in
     sorted-irreducibles _ b.sound _ b.leading _ _ all few (rw c.deref.ensures.0 at c.by_grevlex-s.ensures)
 
@@ -36,53 +26,49 @@ returns-in_err-l c =
     let e = err_from_is_err_and c.from_residual.result c.from_residual.ensures.1 in
     let many : c.list_irreducibles.result ≡ None = grind arith in
     let same : c.in_err-l.field-0.0 ≡ c.at.result = grind arith in
-    let (none, s) = c.requires in
+    let (none, b) = c.requires in
     let counted = rw many at c.list_irreducibles.ensures in
-    rw (e.1, e.2, same, c.at.ensures) (says-refused _ _ _ (no-rows-length none) (whole-large _ _ s.basis.leading s.basis.pass counted.0))
+    rw (e.1, e.2, same, c.at.ensures) (says-refused _ _ _ (no-rows-length none) (whole-large _ _ b.leading b.pass counted.0))
 
 pub by_grevlex-s-requires : goal.by_grevlex-s-requires
 by_grevlex-s-requires c =
     let (_, few) = rw (counted (goal.at.by_grevlex-s-requires c).In_ok-l) at c.list_irreducibles.ensures in
-    (c.requires.1.basis.sound.variables.most, rw c.deref.ensures.0 few)
+    rw c.deref.ensures.0 few
 
 pub is_groebner-requires : goal.is_groebner-requires
 is_groebner-requires c =
-    let (none, s) = c.requires in
-    let b = s.basis in (
+    let (none, b) = c.requires in (
       none,
       record {
-        arrays = s.arrays;
-        basis = record {
-          sound = b.sound;
-          irreducibles = rw c.deref-2.ensures.0 (irreducible (goal.at.is_groebner-requires c).After-by_grevlex-s);
-          lines = sound-lines _ b.sound (filled (goal.at.is_groebner-requires c).Start);
-          clear = lines_clear _ b.pass;
-          zero_dimensional = λ h. (b.pass h).1;
-        };
+        sound = b.sound;
+        irreducibles = rw c.deref-2.ensures.0 (irreducible (goal.at.is_groebner-requires c).After-by_grevlex-s);
+        lines = sound-lines _ b.sound;
+        clear = lines_clear _ b.pass;
+        zero_dimensional = λ h. (b.pass h).1;
       },
     )
 
 pub failing_line-line-requires : goal.failing_line-line-requires
 failing_line-line-requires c =
-    let s = c.requires.1 in
-    let b = s.basis in
+    let b = c.requires.1 in
     let (size, accepted) = rw c.deref-2.ensures.0 at c.is_groebner.ensures in
-    record { arrays = s.arrays; basis = failing _ b.sound (filled (goal.at.failing_line-line-requires c).Start) b.pass _ (irreducible (goal.at.failing_line-line-requires c).After-by_grevlex-s) _ _ accepted c.if-not-is_groebner.true }
+    failing _ b.sound b.pass _ (irreducible (goal.at.failing_line-line-requires c).After-by_grevlex-s) _ _ accepted c.if-not-is_groebner.true
 
 pub shape_of-cells-then-not-is_groebner : goal.shape_of-cells-then-not-is_groebner
 shape_of-cells-then-not-is_groebner c = c.is_groebner.ensures.0 ∙ sym (no-rows-length c.requires.0)
 
 pub returns-then-not-is_groebner : goal.returns-then-not-is_groebner
 returns-then-not-is_groebner c =
-    let b = c.requires.1.basis in
-    let whole = whole-failing _ b.sound (filled (goal.at.returns-then-not-is_groebner c).Start) b.pass _ (irreducible (goal.at.returns-then-not-is_groebner c).After-by_grevlex-s) _ c.failing_line-line.ensures in
-    rw c.at-then-not-is_groebner.ensures (says-refused _ _ _ c.is_groebner.ensures.0 whole)
+    let b = c.requires.1 in
+    let l = irreducible (goal.at.returns-then-not-is_groebner c).After-by_grevlex-s in
+    rw c.at-then-not-is_groebner.ensures
+    (says-refused _ _ _ c.is_groebner.ensures.0 (whole-failing _ b.sound b.pass _ l _ c.failing_line-line.ensures))
 
 pub shape_of-cells : goal.shape_of-cells
 shape_of-cells c = c.is_groebner.ensures.0 ∙ sym (no-rows-length c.requires.0)
 
 pub returns : goal.returns
 returns c =
-    let b = c.requires.1.basis in
+    let b = c.requires.1 in
     let (size, accepted) = rw c.deref-2.ensures.0 at c.is_groebner.ensures in
-    whole-passes _ b.sound (filled (goal.at.returns c).Start) b.pass _ (irreducible (goal.at.returns c).After-by_grevlex-s) _ _ accepted size c.if-not-is_groebner.false
+    whole-passes _ b.sound b.pass _ (irreducible (goal.at.returns c).After-by_grevlex-s) _ _ accepted size c.if-not-is_groebner.false
