@@ -1,5 +1,5 @@
 -- `check_irreducibles` meets its contract (proofs/WholeChecks.antt).
-use mathlib.Core.Path.{◌≡◌, sym, ◌∙◌}
+use mathlib.Core.Path.{◌≡◌}
 use native.Mathlib.Omega.{arith}
 use Rattle.std.specs.Prelude.{Some, None}
 use Rattle.std.proofs.lemmas.Result.{err_from_is_err_and}
@@ -30,11 +30,6 @@ returns-in_err-l c =
     let counted = rw many at c.list_irreducibles.ensures in
     rw (e.1, e.2, same, c.at.ensures) (says-refused _ _ _ (no-rows-length none) (whole-large _ _ b.leading b.pass counted.0))
 
-pub by_grevlex-s-requires : goal.by_grevlex-s-requires
-by_grevlex-s-requires c =
-    let (_, few) = rw (counted (goal.at.by_grevlex-s-requires c).In_ok-l) at c.list_irreducibles.ensures in
-    rw c.deref.ensures.0 few
-
 pub is_groebner-requires : goal.is_groebner-requires
 is_groebner-requires c =
     let (none, b) = c.requires in (
@@ -54,18 +49,12 @@ failing_line-line-requires c =
     let (size, accepted) = rw c.deref-2.ensures.0 at c.is_groebner.ensures in
     failing _ b.sound b.pass _ (irreducible (goal.at.failing_line-line-requires c).After-by_grevlex-s) _ _ accepted c.if-not-is_groebner.true
 
-pub shape_of-cells-then-not-is_groebner : goal.shape_of-cells-then-not-is_groebner
-shape_of-cells-then-not-is_groebner c = c.is_groebner.ensures.0 ∙ sym (no-rows-length c.requires.0)
-
 pub returns-then-not-is_groebner : goal.returns-then-not-is_groebner
 returns-then-not-is_groebner c =
     let b = c.requires.1 in
     let l = irreducible (goal.at.returns-then-not-is_groebner c).After-by_grevlex-s in
     rw c.at-then-not-is_groebner.ensures
     (says-refused _ _ _ c.is_groebner.ensures.0 (whole-failing _ b.sound b.pass _ l _ c.failing_line-line.ensures))
-
-pub shape_of-cells : goal.shape_of-cells
-shape_of-cells c = c.is_groebner.ensures.0 ∙ sym (no-rows-length c.requires.0)
 
 pub returns : goal.returns
 returns c =

@@ -1,5 +1,4 @@
 -- `check_whole` meets its contract (proofs/WholeChecks.antt).
-use mathlib.Core.Path.{sym, ◌∙◌}
 use Rattle.staircase.specs.Leads.{LeadsOf}
 use Rattle.staircase.proofs.LineLeads.{leads-held}
 use Rattle.multiplication.proofs.AllRows.{no-rows-length}
@@ -32,9 +31,3 @@ check_irreducibles-requires c =
     let clear = rw c.in_default.is at c.first_divided.ensures in
     let pass = leads-pass _ _ leading _ says clear c.if-not-zero_dimensional.false in
     (none, record { sound = sound; leading = rw c.deref-3.ensures.0 leading; pass = pass })
-
-pub shape_of-cells : goal.shape_of-cells
-shape_of-cells c = c.check_irreducibles.ensures.size ∙ sym (no-rows-length c.requires.0)
-
-pub returns : goal.returns
-returns c = c.check_irreducibles.ensures
