@@ -26,13 +26,13 @@ use Rattle.groebner.specs.Criteria.{Clear, Low}
 use Rattle.groebner.specs.Enumeration.{Enumerates}
 use Rattle.groebner.proofs.Clear.{clear-iff}
 use Rattle.groebner.proofs.Next.{variables-ranking}
-use Rattle.lines.specs.Bases.{StoredBasis}
+use Rattle.lines.specs.declared.StoredBasis.{StoredBasis}
 use Rattle.staircase.specs.StoredLines as read
 use Rattle.multiplication.specs.Rows.{Tables, tables_of}
 use Rattle.fglm.specs.Found.{found_lines, found_standard, Printable}
 use Rattle.fglm.specs.Enumerable.{Enumerated}
 use Rattle.fglm.specs.Enumerable as fglm
-use Rattle.fglm.specs.Lex.{LexBasis}
+use Rattle.fglm.specs.declared.lex_basis.LexBasis.{LexBasis}
 use Rattle.fglm.proofs.BasisLines.{convertible, converted-at}
 use Rattle.convert.specs.LexText.{ToPrint, written_of}
 use Rattle.convert.specs.Outcome.{Converts}

@@ -1,22 +1,23 @@
 -- The output for a lex basis of the code, by its parts.
 --   output p n b         the parts, one after the other
 --   written-output       the output is these parts
-use Prim.Native.Nat.{ℕ, ◌≤◌, ◌<◌}
+use Prim.Native.Nat.{ℕ, ◌<◌}
 use mathlib.Core.Path.{◌≡◌, ap, ap₂, ◌∙◌}
 use mathlib.Core.List.{List, [], ◌∷◌, ◌++◌, map, append-nil}
-use lib.ListN.{length, take, length-map}
-use lib.Seq.{length-take-le}
+use lib.ListN.{length, length-map}
+use Rattle.arrayvec.specs.ArrayVec.{ArrayVec}
 use Rattle.lists.specs.Lists.{Bytes}
 use Rattle.monomial.specs.Represented.{row}
-use Rattle.lines.specs.LineTerms.{terms_in}
-use Rattle.lines.specs.declared.line.Generator.{Generator}
+use Rattle.monomial.specs.declared.Monomial.{Monomial}
+use Rattle.lines.specs.LineTerms.{terms_in, terms_of_lines}
+use Rattle.lines.specs.declared.line.LineTerm.{LineTerm}
 use Rattle.tabtext.specs.Text.{bytes, header, standard, points, end, text, TextLine}
 use Rattle.tabtext.specs.Printed.{printed, count_line}
 use Rattle.tabtext.specs.Printed as lines
 use Rattle.tabtext.proofs.Separators.{points-counted, end-counted}
 use Rattle.staircase.specs.TermLines as read
 use Rattle.fglm.specs.Found.{found_lines, found_standard, Printable}
-use Rattle.fglm.specs.Lex.{LexBasis}
+use Rattle.fglm.specs.declared.lex_basis.LexBasis.{LexBasis}
 use Rattle.convert.specs.Written.{written}
 use Rattle.convert.specs.LexText.{generator_lines, written_of}
 use Rattle.convert.proofs.LineSequence.{text-line, text-append}
@@ -26,7 +27,8 @@ use Rattle.convert.proofs.PrintedValues.{standard-printed, lines-printed}
 abbrev pub output : ℕ → ℕ → LexBasis → Bytes
 output p n b =
     printed (header (bytes "lex") p n)
-    ++ (text (generator_lines n b) ++ (printed (lines.standard_line n b.standard) ++ (count_line (bytes "runs") (length b.standard) ++ count_line (bytes "end") b.lines)))
+    ++ (text (generator_lines n b)
+    ++ (printed (lines.standard_line n b.standard.items) ++ (count_line (bytes "runs") (length b.standard.items) ++ count_line (bytes "end") (length b.lines.items))))
 
 -- The text of a basis line, poly lines, a stairs line, a runs line and an end line.
 text-parts : (l : TextLine) (ls : List TextLine) (s : TextLine) (c k : ℕ)
@@ -41,21 +43,23 @@ text-parts l ls s c k =
     last : text (points c ∷ end k ∷ []) ≡ count_line (bytes "runs") c ++ count_line (bytes "end") k
     last = text-line (points c) (end k ∷ []) ∙ ap₂ ◌++◌ (points-counted c) (text-line (end k) [] ∙ append-nil (printed (end k)) ∙ end-counted k)
 
-pub written-output : (p : ℕ) (h : 1 < p) (n : ℕ) (b : LexBasis) → Printable p n b → b.lines ≤ length b.generators
-    → written_of p h n b ≡ output p n b
-unfolding written found_lines found_standard generator_lines lines.standard_line read.lines_of
-written-output p h n b w i = same ∙ text-parts (header (bytes "lex") p n) (generator_lines n b) (lines.standard_line n b.standard) (length b.standard) b.lines
+pub written-output : (p : ℕ) (h : 1 < p) (n : ℕ) (b : LexBasis) → Printable p n b → written_of p h n b ≡ output p n b
+unfolding written found_lines found_standard generator_lines lines.standard_line read.lines_of terms_of_lines
+written-output p h n b w = same ∙ text-parts (header (bytes "lex") p n) (generator_lines n b) (lines.standard_line n standards) (length standards) (length G)
   where
-    G : List Generator
-    G = take b.lines b.generators
+    G : List (ArrayVec LineTerm)
+    G = b.lines.items
 
-    count : length (found_standard n b) ≡ length b.standard
-    count = length-map b.standard (row n)
+    standards : List Monomial
+    standards = b.standard.items
 
-    number : length (found_lines p h n b) ≡ b.lines
-    number = length-map (map (terms_in n) G) (read.line_of p h n) ∙ length-map G (terms_in n) ∙ length-take-le b.lines b.generators i
+    count : length (found_standard n b) ≡ length standards
+    count = length-map standards (row n)
+
+    number : length (found_lines p h n b) ≡ length G
+    number = length-map (terms_of_lines n G) (read.line_of p h n) ∙ length-map G (λ (g : ArrayVec LineTerm). terms_in n g.items)
 
     same : written_of p h n b
-        ≡ text ((header (bytes "lex") p n ∷ generator_lines n b) ++ (lines.standard_line n b.standard ∷ points (length b.standard) ∷ end b.lines ∷ []))
+        ≡ text ((header (bytes "lex") p n ∷ generator_lines n b) ++ (lines.standard_line n standards ∷ points (length standards) ∷ end (length G) ∷ []))
     same = ap₂ (λ (ls : List TextLine) (s : List (List ℕ) × ℕ × ℕ). text ((header (bytes "lex") p n ∷ ls) ++ (standard s.0 ∷ points s.1 ∷ end s.2 ∷ [])))
-        (lines-printed p h n G w.each) (λ i. (standard-printed n b.standard w.standard i, count i, number i))
+        (lines-printed p h n G w.each) (λ i. (standard-printed n standards w.standard i, count i, number i))

@@ -6,16 +6,16 @@ use mathlib.Core.Path.{◌≡◌, refl, ap, ap₂}
 use mathlib.Core.List.{List, [], ◌∷◌, ◌++◌, map}
 use native.Mathlib.Omega.{arith}
 use lib.ListN.{length, take}
+use Rattle.arrayvec.specs.ArrayVec.{ArrayVec}
 use Rattle.lists.specs.Lists.{Each}
-use Rattle.residue.specs.declared.Residue.{Residue}
 use Rattle.monomial.specs.Rows.{Row}
 use Rattle.monomial.specs.Represented.{row, monomial}
 use Rattle.monomial.specs.Represented as represented
 use Rattle.monomial.specs.declared.Exponent.{Exponent}
 use Rattle.monomial.specs.declared.Monomial.{Monomial}
-use Rattle.lines.specs.LineTerms.{exponents_of, terms_of, terms_in}
+use Rattle.lines.specs.LineTerms.{exponents_of, term_of, terms_in, terms_of_lines}
 use Rattle.lines.specs.Bases.{Padded}
-use Rattle.lines.specs.declared.line.Generator.{Generator}
+use Rattle.lines.specs.declared.line.LineTerm.{LineTerm}
 use Rattle.tabtext.specs.Text.{generator}
 use Rattle.tabtext.specs.Printed.{generator_line}
 use Rattle.tabtext.proofs.Values.{exponents-length-of}
@@ -52,20 +52,18 @@ standard-printed n (m ∷ ms) e = ap₂ ◌∷◌ (row-exponents n m.e (held-lon
 
 module _ (p : ℕ) (h : 1 < p) (n : ℕ) where
   -- The terms of a held line.
-  terms-representable : (k : ℕ) (cs : List Residue) (ms : List Monomial) → Each (λ (c : Residue). (0 < c.0) × (c.0 < p)) (take k cs)
-      → Each (Padded n) (take k ms) → Each (Representable p h n) (take k (terms_of n cs ms))
-  unfolding terms_of
-  terms-representable zero cs ms a b = tt
-  terms-representable (suc k) [] ms a b = tt
-  terms-representable (suc k) (c ∷ cs) [] a b = tt
-  terms-representable (suc k) (c ∷ cs) (m ∷ ms) a b = ((a.0.1, held-row n m b.0), terms-representable k cs ms a.1 b.1)
+  terms-representable : (g : List LineTerm) → Each (λ (t : LineTerm). (0 < t.coefficient.0) × (t.coefficient.0 < p)) g → Each (λ (t : LineTerm). Padded n t.monomial) g
+      → Each (Representable p h n) (terms_in n g)
+  unfolding terms_in term_of
+  terms-representable [] a b = tt
+  terms-representable (t ∷ g) a b = ((a.0.1, held-row n t.monomial b.0), terms-representable g a.1 b.1)
 
-  line-printed : (g : Generator) → PrintableLine p n g → as_generator p h n (read.line_of p h n (terms_in n g)) ≡ generator_line n g
-  unfolding as_generator line.terms_of_line terms_in generator_line
-  line-printed g w =
-      ap generator (line.terms-of-generator p h n (terms_in n g) w.monic (terms-representable g.terms g.coefficients g.monomials w.coefficients w.held.1))
+  line-printed : (g : List LineTerm) → PrintableLine p n g → as_generator p h n (read.line_of p h n (terms_in n g)) ≡ generator_line n g
+  unfolding as_generator line.terms_of_line generator_line
+  line-printed g w = ap generator (line.terms-of-generator p h n (terms_in n g) w.monic (terms-representable g w.coefficients w.held.1))
 
-  pub lines-printed : (l : List Generator) → Each (PrintableLine p n) l → map (as_generator p h n) (read.lines_of p h n (map (terms_in n) l)) ≡ map (generator_line n) l
-  unfolding read.lines_of
+  pub lines-printed : (l : List (ArrayVec LineTerm)) → Each (λ (g : ArrayVec LineTerm). PrintableLine p n g.items) l
+      → map (as_generator p h n) (read.lines_of p h n (terms_of_lines n l)) ≡ map (λ (g : ArrayVec LineTerm). generator_line n g.items) l
+  unfolding read.lines_of terms_of_lines
   lines-printed [] w = refl
-  lines-printed (g ∷ l) w = ap₂ ◌∷◌ (line-printed g w.0) (lines-printed l w.1)
+  lines-printed (g ∷ l) w = ap₂ ◌∷◌ (line-printed g.items w.0) (lines-printed l w.1)

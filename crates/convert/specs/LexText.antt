@@ -1,26 +1,18 @@
 -- Inner contracts. The text of a lex basis of the code.
---   LinesFit n b          it has at most most_lines lines, each of at most most_terms terms
 --   generator_lines n b   its lines, as lines of the text
 --   ToPrint p n b         it can be printed, for a modulus p and a number n of variables of the format
 --   written_of p h n b    the whole text
-use Rattle.std.specs.Prelude.{ℕ, ◌≤◌, ◌<◌, List, length, map}
+use Rattle.std.specs.Prelude.{ℕ, ◌<◌, List, map}
 use Rattle.arrayvec.specs.ArrayVec.{ArrayVec}
-use Rattle.lists.specs.Lists.{Bytes, Each}
+use Rattle.lists.specs.Lists.{Bytes}
 use Rattle.residue.specs.Prime.{Modulus}
 use Rattle.monomial.specs.Sizes.{VariableCount}
-use Rattle.lines.specs.Sizes.{most_terms, most_lines}
 use Rattle.lines.specs.declared.line.LineTerm.{LineTerm}
 use Rattle.tabtext.specs.Text.{TextLine}
 use Rattle.tabtext.specs.Printed.{generator_line}
 use Rattle.fglm.specs.declared.lex_basis.LexBasis.{LexBasis}
 use Rattle.fglm.specs.Found.{found_lines, found_standard, Printable}
 use Rattle.convert.specs.Written.{written}
-
--- It has at most most_lines lines, each of at most most_terms terms, and n is a number of variables.
-pub record LinesFit (n : ℕ) (b : LexBasis) : Type 0 where
-  pub variables : VariableCount n
-  pub lines : length b.lines.items ≤ most_lines
-  pub each : Each (λ (g : ArrayVec LineTerm). length g.items ≤ most_terms) b.lines.items
 
 -- The lines of the text.
 unfoldable pub generator_lines : ℕ → LexBasis → List TextLine

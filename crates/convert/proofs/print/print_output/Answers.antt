@@ -5,27 +5,20 @@ use mathlib.Core.List.{◌++◌}
 use native.Mathlib.Omega.{arith}
 use lib.ListN.{length}
 use Rattle.lists.specs.Lists.{Bytes}
-use Rattle.lines.proofs.Lines.{lines-length}
 use Rattle.tabtext.specs.Text.{bytes, header, text}
 use Rattle.tabtext.specs.Printed.{standard_line, printed, count_line}
 use Rattle.tabtext.proofs.Writing.{Left, left-all, left_less, left-last, left-room}
-use Rattle.fglm.specs.Lex.{LexBasis, lex_in}
 use Rattle.convert.specs.LexText.{generator_lines, written_of}
-use Rattle.convert.proofs.LinePlaces.{held-lines}
 use Rattle.convert.proofs.OutputParts.{output, written-output}
 use Rattle.convert.proofs.print.print_output.Goals.{After-print_header, After-print_lines, After-print_standard, After-print_count, Start}
 use Rattle.convert.proofs.print.print_output.Goals as goal
-
--- The lex basis that is lent.
-abbrev lent : (g : _) → Start g → LexBasis
-lent g s = lex_in s.args.lex.now s.args.counts.now s.args.coefficients.now s.args.exponents.now
 
 -- The lines of the output.
 abbrev basis-line : (g : _) → Start g → Bytes
 basis-line g s = printed (header (bytes "lex") s.args.p s.args.n)
 
 abbrev poly-lines : (g : _) → Start g → Bytes
-poly-lines g s = text (generator_lines s.args.n (lent g s))
+poly-lines g s = text (generator_lines s.args.n s.args.lex.now)
 
 abbrev standard-line : (g : _) → Start g → Bytes
 standard-line g s = printed (standard_line s.args.n s.args.lex.now.standard.items)
@@ -34,29 +27,26 @@ abbrev points-line : (g : _) → Start g → Bytes
 points-line g s = count_line (bytes "runs") (length s.args.lex.now.standard.items)
 
 abbrev end_line : (g : _) → Start g → Bytes
-end_line g s = count_line (bytes "end") s.args.lex.now.lines
+end_line g s = count_line (bytes "end") (length s.args.lex.now.lines.items)
 
 -- The output is these lines.
-parts : (g : _) (s : Start g) (h : 1 < s.args.p) → written_of s.args.p h s.args.n (lent g s) ≡ output s.args.p s.args.n (lent g s)
-parts g s h =
-    let w = s.requires.basis.0.printable in
-    let k = lines-length s.args.counts.now s.args.coefficients.now s.args.exponents.now in
-    written-output s.args.p h s.args.n (lent g s) w (omega (arith, w.lines, k))
+parts : (g : _) (s : Start g) (h : 1 < s.args.p) → written_of s.args.p h s.args.n s.args.lex.now ≡ output s.args.p s.args.n s.args.lex.now
+parts g s h = written-output s.args.p h s.args.n s.args.lex.now s.requires.0.printable
 
 -- What is left of them.
 abbrev Rest : (g : _) → Start g → Bytes → g.row.S.Denot → Type 0
-Rest g s rest now = Left g.S.Sink.takes g.S.Sink.after s.args.sink.now (output s.args.p s.args.n (lent g s)) rest now
+Rest g s rest now = Left g.S.Sink.takes g.S.Sink.after s.args.sink.now (output s.args.p s.args.n s.args.lex.now) rest now
 
-all : (g : _) (s : Start g) → Rest g s (output s.args.p s.args.n (lent g s)) s.args.sink.now
+all : (g : _) (s : Start g) → Rest g s (output s.args.p s.args.n s.args.lex.now) s.args.sink.now
 all g s =
-    let h = s.requires.basis.0.modulus.prime.above_one in
-    left-all g.met.S.Sink.laws refl (subst (λ (b : Bytes). g.S.Sink.takes s.args.sink.now (length b)) (parts g s h) (s.requires.basis.1 h))
+    let h = s.requires.0.modulus.prime.above_one in
+    left-all g.met.S.Sink.laws refl (subst (λ (b : Bytes). g.S.Sink.takes s.args.sink.now (length b)) (parts g s h) (s.requires.1 h))
 
 pub print_header-requires : goal.print_header-requires
 unfolding bytes
 print_header-requires g c =
     let s = (goal.at.print_header-requires g c).Start in
-    (c.requires.basis.0.variables.most, left-room g.met.S.Sink.laws (basis-line g s) (poly-lines g s ++ (standard-line g s ++ (points-line g s ++ end_line g s))) refl (all g s))
+    (c.requires.0.variables.most, left-room g.met.S.Sink.laws (basis-line g s) (poly-lines g s ++ (standard-line g s ++ (points-line g s ++ end_line g s))) refl (all g s))
 
 after-header : (g : _) (c : After-print_header g) →
     let s = (goal.at.After-print_header g c).Start in
@@ -70,7 +60,7 @@ pub print_lines-requires : goal.print_lines-requires
 print_lines-requires g c =
     let s = (goal.at.print_lines-requires g c).Start in
     let room = left-room g.met.S.Sink.laws (poly-lines g s) (standard-line g s ++ (points-line g s ++ end_line g s)) refl (after-header g (goal.at.print_lines-requires g c).After-print_header) in
-    record { arrays = c.requires.arrays; basis = (held-lines c.requires.basis.0, room) }
+    (c.requires.0.variables, room)
 
 after-lines : (g : _) (c : After-print_lines g) →
     let s = (goal.at.After-print_lines g c).Start in
@@ -80,7 +70,7 @@ after-lines g c = left_less g.met.S.Sink.laws _ _ refl (after-header g (goal.at.
 pub print_standard-requires : goal.print_standard-requires
 print_standard-requires g c =
     let s = (goal.at.print_standard-requires g c).Start in
-    let given = c.requires.basis.0 in
+    let given = c.requires.0 in
     (given.variables, rw c.deref.ensures.0 (left-room g.met.S.Sink.laws (standard-line g s) (points-line g s ++ end_line g s) refl (after-lines g (goal.at.print_standard-requires g c).After-print_lines)))
 
 after-standard : (g : _) (c : After-print_standard g) →
@@ -93,14 +83,14 @@ unfolding bytes
 print_count-requires g c =
     let s = (goal.at.print_count-requires g c).Start in
     let left = after-standard g (goal.at.print_count-requires g c).After-print_standard in
-    subst (λ (k : ℕ). g.S.Sink.takes c.print_standard.new.sink (length (count_line (bytes "runs") k))) (sym c.len-count.ensures.value)
+    subst (λ (k : ℕ). g.S.Sink.takes c.print_standard.new.sink (length (count_line (bytes "runs") k))) (sym c.len.ensures.value)
     (left-room g.met.S.Sink.laws (points-line g s) (end_line g s) refl left)
 
 after-points : (g : _) (c : After-print_count g) →
     let s = (goal.at.After-print_count g c).Start in
     Rest g s (end_line g s) c.print_count.new.sink
 unfolding bytes
-after-points g c = left_less g.met.S.Sink.laws (points-line g (goal.at.After-print_count g c).Start) _ refl (after-standard g (goal.at.After-print_count g c).After-print_standard) (rw c.len-count.ensures.value at c.print_count.ensures.printed)
+after-points g c = left_less g.met.S.Sink.laws (points-line g (goal.at.After-print_count g c).Start) _ refl (after-standard g (goal.at.After-print_count g c).After-print_standard) (rw c.len.ensures.value at c.print_count.ensures.printed)
 
 pub print_count-requires-2 : goal.print_count-requires-2
 unfolding bytes
