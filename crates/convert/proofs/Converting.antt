@@ -73,7 +73,7 @@ module _ (b : StoredBasis) (l : List Monomial) (cells : List ℕ) (basis : Passe
         low clear (λ h. (reduced h).groebner) given.filled r found
 
     pub to-print : ToPrint b.p b.n r
-    to-print = record { modulus = modulus; variables = sizes; printable = at.0 }
+    to-print = record { above_one = modulus.prime.above_one; printable = at.0 }
 
     pub converts : (h : 1 < b.p) → Converts b.p h b.n (read.stored_lines b h) (H h) (found_standard b.n r)
     converts h = subst (λ (h : 1 < b.p). Converts b.p h b.n (read.stored_lines b h) (H h) (found_standard b.n r)) (le_prop prime.above_one h)

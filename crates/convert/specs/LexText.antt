@@ -1,12 +1,10 @@
 -- Inner contracts. The text of a lex basis of the code.
 --   generator_lines n b   its lines, as lines of the text
---   ToPrint p n b         it can be printed, for a modulus p and a number n of variables of the format
+--   ToPrint p n b         it can be printed, for a number p over 1 and n variables
 --   written_of p h n b    the whole text
 use Rattle.std.specs.Prelude.{ℕ, ◌<◌, List, map}
 use Rattle.arrayvec.specs.ArrayVec.{ArrayVec}
 use Rattle.lists.specs.Lists.{Bytes}
-use Rattle.residue.specs.Prime.{Modulus}
-use Rattle.monomial.specs.Sizes.{VariableCount}
 use Rattle.lines.specs.declared.line.LineTerm.{LineTerm}
 use Rattle.tabtext.specs.Text.{TextLine}
 use Rattle.tabtext.specs.Printed.{generator_line}
@@ -21,8 +19,7 @@ generator_lines n b = map (λ (g : ArrayVec LineTerm). generator_line n g.items)
 
 -- What the printing of the whole text asks.
 pub record ToPrint (p n : ℕ) (b : LexBasis) : Type 0 where
-  pub modulus : Modulus p
-  pub variables : VariableCount n
+  pub above_one : 1 < p
   pub printable : Printable p n b
 
 -- The whole text: the lines and the standard monomials of the basis, as document 01 writes them.

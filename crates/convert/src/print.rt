@@ -3,7 +3,6 @@
 //   print_lines      the poly lines
 //   print_output     the whole text: the basis line, the poly lines, the stairs line, the runs line, the end line
 ghost use Rattle.std.specs.Prelude.{◌≡◌, ◌<◌, length};
-ghost use Rattle.monomial.specs.Sizes.{VariableCount};
 ghost use Rattle.tabtext.specs.Text.{text};
 ghost use Rattle.convert.specs.LexText.{generator_lines, ToPrint, written_of};
 
@@ -13,7 +12,7 @@ use tabtext::print::{print_count, print_generator, print_header, print_standard}
 use tabtext::sink::Sink;
 
 fn print_lines<S: Sink>(sink: &mut S, lex: &LexBasis, n: Variables)
-    requires { VariableCount n × S.takes sink.old (length (text (generator_lines n lex.now))) }
+    requires { S.takes sink.old (length (text (generator_lines n lex.now))) }
     ensures { sink.new ≡ S.after sink.old (text (generator_lines n lex.now)) }
 {
     for g in lex.lines.iter() {

@@ -1,15 +1,11 @@
 -- `convert` meets its contract (proofs/TextOutcome.antt).
 use native.Mathlib.Omega.{arith}
-use mathlib.Core.Path.{refl}
 use Rattle.std.proofs.lemmas.Result.{err_from_is_err_and}
 use Rattle.convert.proofs.TextOutcome.{passed-basis, too_long, refused-text, text-finished}
 use Rattle.convert.proofs.convert.Goals as goal
 
 pub returns-then-input-gt-MAX_BYTES : goal.returns-then-input-gt-MAX_BYTES
 returns-then-input-gt-MAX_BYTES c = rw c.at.ensures (too_long _ _ (omega (arith, c.if-input-gt-MAX_BYTES.true)))
-
-pub check_text-irreducibles-requires : goal.check_text-irreducibles-requires
-check_text-irreducibles-requires c = refl
 
 pub returns-in_err-irreducibles : goal.returns-in_err-irreducibles
 returns-in_err-irreducibles c =

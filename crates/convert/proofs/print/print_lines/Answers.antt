@@ -11,15 +11,14 @@ use Rattle.convert.proofs.print.print_lines.Goals.{After-deref}
 use Rattle.convert.proofs.print.print_lines.Goals as goal
 
 pub loop-g-init : goal.loop-g-init
-loop-g-init g c = printing-lines-start g.met.S.Sink.laws c.requires.1
+loop-g-init g c = printing-lines-start g.met.S.Sink.laws c.requires
 
 -- The line that is read.
 stands : (g : _) (c : After-deref g) → StandsAt (generator_lines c.args.n c.args.lex.now) c.loop-g.g-index (generator_line c.args.n c.deref.result.now)
 stands g c = line-stands c.args.n c.args.lex.now c.loop-g.g-index c.deref-g-items.ensures.0 c.loop-g-test.true c.g-item.is c.deref.ensures.0
 
 pub print_generator-requires : goal.print_generator-requires
-print_generator-requires g c =
-    (c.deref.ensures.1, c.requires.0, printing-lines-room g.met.S.Sink.laws c.loop-g.invariant _ (stands g (goal.at.print_generator-requires g c).After-deref))
+print_generator-requires g c = printing-lines-room g.met.S.Sink.laws c.loop-g.invariant _ (stands g (goal.at.print_generator-requires g c).After-deref)
 
 pub loop-g-preserved : goal.loop-g-preserved
 loop-g-preserved g c = printing-lines-turn g.met.S.Sink.laws c.loop-g.invariant _ (stands g (goal.at.loop-g-preserved g c).After-deref) c.print_generator.ensures.printed

@@ -1,10 +1,11 @@
 -- `print::print_output` meets its contract: line by line, what is left of the output.
 use Prim.Native.Nat.{ℕ, ◌<◌}
 use mathlib.Core.Path.{◌≡◌, refl, sym, subst}
-use mathlib.Core.List.{◌++◌}
+use mathlib.Core.List.{List, ◌++◌}
 use native.Mathlib.Omega.{arith}
 use lib.ListN.{length}
 use Rattle.lists.specs.Lists.{Bytes}
+use Rattle.monomial.specs.declared.Monomial.{Monomial}
 use Rattle.tabtext.specs.Text.{bytes, header, text}
 use Rattle.tabtext.specs.Printed.{standard_line, printed, count_line}
 use Rattle.tabtext.proofs.Writing.{Left, left-all, left_less, left-last, left-room}
@@ -39,14 +40,14 @@ Rest g s rest now = Left g.S.Sink.takes g.S.Sink.after s.args.sink.now (output s
 
 all : (g : _) (s : Start g) → Rest g s (output s.args.p s.args.n s.args.lex.now) s.args.sink.now
 all g s =
-    let h = s.requires.0.modulus.prime.above_one in
+    let h = s.requires.0.above_one in
     left-all g.met.S.Sink.laws refl (subst (λ (b : Bytes). g.S.Sink.takes s.args.sink.now (length b)) (parts g s h) (s.requires.1 h))
 
 pub print_header-requires : goal.print_header-requires
 unfolding bytes
 print_header-requires g c =
     let s = (goal.at.print_header-requires g c).Start in
-    (c.requires.0.variables.most, left-room g.met.S.Sink.laws (basis-line g s) (poly-lines g s ++ (standard-line g s ++ (points-line g s ++ end_line g s))) refl (all g s))
+    left-room g.met.S.Sink.laws (basis-line g s) (poly-lines g s ++ (standard-line g s ++ (points-line g s ++ end_line g s))) refl (all g s)
 
 after-header : (g : _) (c : After-print_header g) →
     let s = (goal.at.After-print_header g c).Start in
@@ -59,8 +60,7 @@ after-header g c =
 pub print_lines-requires : goal.print_lines-requires
 print_lines-requires g c =
     let s = (goal.at.print_lines-requires g c).Start in
-    let room = left-room g.met.S.Sink.laws (poly-lines g s) (standard-line g s ++ (points-line g s ++ end_line g s)) refl (after-header g (goal.at.print_lines-requires g c).After-print_header) in
-    (c.requires.0.variables, room)
+    left-room g.met.S.Sink.laws (poly-lines g s) (standard-line g s ++ (points-line g s ++ end_line g s)) refl (after-header g (goal.at.print_lines-requires g c).After-print_header)
 
 after-lines : (g : _) (c : After-print_lines g) →
     let s = (goal.at.After-print_lines g c).Start in
@@ -70,8 +70,9 @@ after-lines g c = left_less g.met.S.Sink.laws _ _ refl (after-header g (goal.at.
 pub print_standard-requires : goal.print_standard-requires
 print_standard-requires g c =
     let s = (goal.at.print_standard-requires g c).Start in
-    let given = c.requires.0 in
-    (given.variables, rw c.deref.ensures.0 (left-room g.met.S.Sink.laws (standard-line g s) (points-line g s ++ end_line g s) refl (after-lines g (goal.at.print_standard-requires g c).After-print_lines)))
+    let left = after-lines g (goal.at.print_standard-requires g c).After-print_lines in
+    subst (λ (ms : List Monomial). g.S.Sink.takes c.print_lines.new.sink (length (printed (standard_line c.args.n ms)))) (sym c.deref.ensures.0)
+    (left-room g.met.S.Sink.laws (standard-line g s) (points-line g s ++ end_line g s) refl left)
 
 after-standard : (g : _) (c : After-print_standard g) →
     let s = (goal.at.After-print_standard g c).Start in
@@ -94,9 +95,12 @@ after-points g c = left_less g.met.S.Sink.laws (points-line g (goal.at.After-pri
 
 pub print_count-requires-2 : goal.print_count-requires-2
 unfolding bytes
-print_count-requires-2 g c = (after-points g (goal.at.print_count-requires-2 g c).After-print_count).room
+print_count-requires-2 g c =
+    subst (λ (k : ℕ). g.S.Sink.takes c.print_count.new.sink (length (count_line (bytes "end") k))) (sym c.len-2.ensures.value)
+    (after-points g (goal.at.print_count-requires-2 g c).After-print_count).room
 
 pub returns : goal.returns
 unfolding bytes
 returns g c h =
-    rw (parts g (goal.at.returns g c).Start h) (left-last g.met.S.Sink.laws (after-points g (goal.at.returns g c).After-print_count) c.print_count-2.ensures.printed)
+    rw (parts g (goal.at.returns g c).Start h)
+    (left-last g.met.S.Sink.laws (after-points g (goal.at.returns g c).After-print_count) (rw c.len-2.ensures.value at c.print_count-2.ensures.printed))
