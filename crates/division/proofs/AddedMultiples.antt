@@ -39,10 +39,11 @@ use Rattle.division.proofs.LineTerms.{line-degree}
 unfoldable pub term_multiple : (p : ℕ) (h : 1 < p) (n c : ℕ) → Row n → LineTerm → ZMod p × Row n
 term_multiple p h n c u t = (residue p h (product_mod p c t.coefficient.0), product n u (row n t.monomial))
 
+-- The array held w₀, and the first k terms of c·u·g were added.
 pub record AddedFirst (p n : ℕ) (w₀ w : List ℕ) (c : ℕ) (u : Row n) (g : List LineTerm) (k : ℕ) : Type 0 where
   pub adds : AddsPolynomial p n w₀ w (λ h. map (term_multiple p h n c u) (take k g))
 
--- All of them.
+-- All terms of c·u·g, as the theory has them.
 module _ (p : ℕ) (h : 1 < p) (n c : ℕ) (u : Row n) where
   rest-terms : (g : List LineTerm) → map (term_multiple p h n c u) g
       ≡ scale (modulo p h) (residue p h c) (relabel (product n u) (map (λ (v : Term). (residue p h v.0, as_row n v.1)) (terms_in n g)))
@@ -82,7 +83,10 @@ module _ (p n : ℕ) {w₀ : List ℕ} (c : ℕ) (u : Row n) (g : List LineTerm)
     }
       where
         next : (h : 1 < p) → map (term_multiple p h n c u) (take k g) ++ ((residue p h x, m) ∷ []) ≡ map (term_multiple p h n c u) (take (k + 1) g)
-        next h = ap₂ (λ y z. map (term_multiple p h n c u) (take k g) ++ ((residue p h y, z) ∷ [])) q r ∙ sym (rw (add-one, take-suc g k d l) (map-append (term_multiple p h n c u) (take k g) (get_or g k d ∷ [])))
+        next h =
+            let term = term_multiple p h n c u in
+            ap₂ (λ y z. map term (take k g) ++ ((residue p h y, z) ∷ [])) q r
+            ∙ sym (rw (add-one, take-suc g k d l) (map-append term (take k g) (get_or g k d ∷ [])))
 
     pub added-stop : SoundLine p n g → length g ≤ k → AddsPolynomial p n w₀ w (product_of p n g c u)
     added-stop s l = adds_same p n (λ h m. ap (λ x. coef (modulo p h) (monomials n) x m)
