@@ -13,7 +13,7 @@ use residue::Residue;
 use residue::field::PrimeField;
 use residue::reciprocals::Reciprocals;
 
-// A vector, and the combination of the added vectors that it is; what is left of a vector is one, with that vector as the last.
+// A vector, and the combination of the added vectors that it is; of what is left of a vector, that vector is the last of these.
 #[derive(Clone, Copy)]
 pub struct AugmentedVector {
     pub vector: Coordinates,
@@ -28,7 +28,7 @@ pub struct Reduced {
 }
 
 // The first of the array; coefficient k of a combination is that of the k-th vector that was added.
-// An array of row structs with a count, handed back by value: this form of the state was settled (document 01).
+// An array of row structs with the count of those in use, handed back by value: document 01 settles this form of the state.
 #[derive(Clone, Copy)]
 pub struct Rows {
     pub used: usize,
