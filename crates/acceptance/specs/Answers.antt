@@ -3,7 +3,7 @@
 --   LeadsPass b              checks 12 and 13, by the leading monomials, speak of nothing
 --   PassedTo13 leads b       b is sound besides, and has these leading monomials
 --   Convertible b l t        what a basis that passes has for the conversion: a reduced Groebner basis, its irreducible monomials, its multiplication rows
---   WholeSays b r cells      the answer to checks 12 to 15
+--   WholeSays b r t      the answer to checks 12 to 15
 --   TextSays                 the answer to checks 2 to 15 of a text
 use Rattle.std.specs.Prelude.{ℕ, ◌<◌, ◌≡◌, List, length, Result, Ok, Err}
 use Rattle.arrayvec.specs.ArrayVec.{ArrayVec}
@@ -27,7 +27,8 @@ use Rattle.staircase.specs.Leads.{LeadsOf}
 use Rattle.staircase.specs.Sound.{Sound}
 use Rattle.staircase.specs.Conditions.{Divided}
 use Rattle.staircase.specs.Listed.{listed, ListsIrreducibles}
-use Rattle.multiplication.specs.Rows.{AllBelow, cell_of, Tables, most_cells, tables_of}
+use Rattle.multiplication.specs.Rows.{AllBelow, cell_of}
+use Rattle.multiplication.specs.declared.rows.Tables.{Tables}
 use Rattle.acceptance.specs.Whole.{Whole}
 
 -- The answer r is the outcome of checks 12 to 15.
@@ -52,12 +53,11 @@ pub record Convertible (b : StoredBasis) (l : List Monomial) (t : Tables) : Type
   pub filled : (h : 1 < b.p) (i : ℕ) → i < b.n → (s : ℕ) → s < length l → Filled (modulo b.p h) b.n (stored_lines b h) (listed b.n l) (one b.n) (cell_of b.p h t) i s
 
 -- The answer to checks 12 to 15: the outcome, and what the conversion works on if the basis passes.
-pub record WholeSays (b : StoredBasis) (r : Result (ArrayVec Monomial) Refused) (cells : List ℕ) : Type 0 where
-  pub size : length cells ≡ most_cells
+pub record WholeSays (b : StoredBasis) (r : Result (ArrayVec Monomial) Refused) (t : Tables) : Type 0 where
   pub verdict : WholeVerdict b r
-  pub convertible : (l : ArrayVec Monomial) → r ≡ Ok l → Convertible b l.items (tables_of cells)
+  pub convertible : (l : ArrayVec Monomial) → r ≡ Ok l → Convertible b l.items t
 
 -- The answer to checks 2 to 15 of a text s: refused by 2 to 11; or b is the basis of the text, and the answer is that to 12 to 15.
-pub data TextSays (s : Bytes) (r : Result (ArrayVec Monomial) Refused) (b : StoredBasis) (cells : List ℕ) : Type 0 where
-  lines_refused : {e : Refused} → r ≡ Err e → Checked s (refused (number e.refusal) e.line) → TextSays s r b cells
-  lines_passed : Checked s (passed (basis_of b)) → WholeSays b r cells → TextSays s r b cells
+pub data TextSays (s : Bytes) (r : Result (ArrayVec Monomial) Refused) (b : StoredBasis) (t : Tables) : Type 0 where
+  lines_refused : {e : Refused} → r ≡ Err e → Checked s (refused (number e.refusal) e.line) → TextSays s r b t
+  lines_passed : Checked s (passed (basis_of b)) → WholeSays b r t → TextSays s r b t

@@ -17,6 +17,7 @@ use division::pairs::first_failing;
 use lines::StoredBasis;
 use monomial::Monomial;
 use multiplication::criterion::is_groebner;
+use multiplication::rows::Tables;
 use staircase::divided::first_divided;
 use staircase::irreducible::{Irreducibles, list_irreducibles};
 use staircase::leads::leads_of;
@@ -34,26 +35,26 @@ fn failing_line(basis: &StoredBasis) -> usize
 
 // 14 and 15, after 12 and 13: the irreducible monomials, in rising grevlex order.
 fn check_irreducibles(
-    cells: &mut [u16],
+    tables: &mut Tables,
     basis: &StoredBasis,
     leads: &[Monomial],
 ) -> Result<Irreducibles, Refused>
-    requires { NoRows cells.old × PassedTo13 leads.now basis.now }
-    ensures { WholeSays basis.now result cells.new }
+    requires { NoRows tables.old × PassedTo13 leads.now basis.now }
+    ensures { WholeSays basis.now result tables.new }
 {
     let l = list_irreducibles(leads, basis.n).ok_or(Refusal::TooManyStandardMonomials.at(0))?;
     let s = by_grevlex(&l, basis.n);
-    if !is_groebner(&mut *cells, basis, &s) {
+    if !is_groebner(&mut *tables, basis, &s) {
         let line = failing_line(basis);
         return Err(Refusal::NotGroebner.at(line));
     }
     Ok(s)
 }
 
-// 12 to 15: the irreducible monomials, in rising grevlex order. If the basis passes, its multiplication rows are left in the lent cells.
-pub fn check_whole(cells: &mut [u16], basis: &StoredBasis) -> Result<Irreducibles, Refused>
-    requires { NoRows cells.old × Sound basis.now }
-    ensures { WholeSays basis.now result cells.new }
+// 12 to 15: the irreducible monomials, in rising grevlex order. If the basis passes, its multiplication rows are left in the lent tables.
+pub fn check_whole(tables: &mut Tables, basis: &StoredBasis) -> Result<Irreducibles, Refused>
+    requires { NoRows tables.old × Sound basis.now }
+    ensures { WholeSays basis.now result tables.new }
 {
     let leads = leads_of(basis);
     if let Some(line) = first_divided(basis, &leads) {
@@ -62,5 +63,5 @@ pub fn check_whole(cells: &mut [u16], basis: &StoredBasis) -> Result<Irreducible
     if !zero_dimensional(&leads, basis.n) {
         return Err(Refusal::NotZeroDimensional.at(0));
     }
-    check_irreducibles(&mut *cells, basis, &leads)
+    check_irreducibles(&mut *tables, basis, &leads)
 }

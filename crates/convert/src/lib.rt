@@ -19,7 +19,7 @@ use lines::StoredBasis;
 use monomial::Monomial;
 use monomial::count::Variables;
 use monomial::order::x1_to_xn;
-use multiplication::rows::MAX_CELLS;
+use multiplication::rows::Tables;
 use residue::field::PrimeField;
 use residue::reciprocals::Reciprocals;
 use tabtext::sink::{Count, Front};
@@ -46,14 +46,14 @@ fn finish(output: &mut [u8], lex: &LexBasis, p: u16, n: Variables) -> Answer
 fn convert_basis(
     output: &mut [u8],
     basis: &StoredBasis,
-    cells: &[u16],
+    tables: &Tables,
     irreducibles: &[Monomial],
 ) -> Answer
-    requires { PassedBasis irreducibles.now cells.now basis.now }
+    requires { PassedBasis irreducibles.now tables.now basis.now }
     ensures { FinishedBasis basis.now output.old output.new result }
 {
     let reciprocals = Reciprocals::new(PrimeField::new(basis.p));
-    let lex = enumerate(cells, irreducibles, x1_to_xn(), reciprocals, basis.n);
+    let lex = enumerate(tables, irreducibles, x1_to_xn(), reciprocals, basis.n);
     finish(&mut *output, &lex, basis.p, basis.n)
 }
 
@@ -65,7 +65,7 @@ pub fn convert(input: &[u8], output: &mut [u8]) -> Answer
         return Err(Refusal::InputTooLong.at(0));
     }
     let mut basis = StoredBasis::default();
-    let mut cells = [0u16; MAX_CELLS];
-    let irreducibles = check_text(input, &mut basis, &mut cells)?;
-    convert_basis(&mut *output, &basis, &cells, &irreducibles)
+    let mut tables = Tables::none();
+    let irreducibles = check_text(input, &mut basis, &mut tables)?;
+    convert_basis(&mut *output, &basis, &tables, &irreducibles)
 }

@@ -3,9 +3,7 @@
 --   VectorEntries   lists of residues, from the entries of vectors of the code
 --   UnitVectors     vectors that are one at one place, as lists of residues
 --   FirstPlaces     the first place of a vector that is not zero
---   RowArrays       rows in an array of numbers
 pub mod UnitRows
 pub mod VectorEntries
 pub mod UnitVectors
 pub mod FirstPlaces
-pub mod RowArrays

@@ -11,8 +11,9 @@
 --   subtracted p a c b     a - c·b
 --   multiplied p c a       c·a
 --   unit_vector p k        one at place k, zero elsewhere; all zero if there is no place k
+--   AddedMultiple p r c w a  a is r + c·w
 --   FirstPlace a o         o is the first place of a that is not zero, or says that there is none
-use Rattle.std.specs.Prelude.{◌≡◌, true, false, List, map, ℕ, ◌<◌, ◌≤◌, length, get_or, eqb, Option, Some, None}
+use Rattle.std.specs.Prelude.{◌≡◌, true, false, List, map, ℕ, ◌+◌, ◌*◌, ◌%◌, ◌<◌, ◌≤◌, length, get_or, eqb, Option, Some, None}
 use Rattle.residue.specs.Field.{ZMod, modulo, residue}
 use Rattle.residue.specs.declared.Residue.{Residue}
 use Rattle.groebner.specs.CoefficientRows.{subtract_multiple, multiply, unit_array}
@@ -70,6 +71,11 @@ multiplied p c a h = multiply (modulo p h) (residue p h c) (vector p h a)
 -- One at place k, zero elsewhere; all zero if there is no place k.
 abbrev pub unit_vector : (p : ℕ) → ℕ → 1 < p → List (ZMod p)
 unit_vector p k h = unit_array (modulo p h) most_standard k
+
+-- a is r + c·w.
+pub record AddedMultiple (p : ℕ) (r : Coordinates) (c : ℕ) (w a : Coordinates) : Type 0 where
+  pub below : Below p a
+  pub sums : (k : ℕ) → k < most_standard → coordinate a k ≡ (coordinate r k + c * coordinate w k) % p
 
 -- The first place that is not zero.
 abbrev pub FirstPlace : Coordinates → Option ℕ → Type 0

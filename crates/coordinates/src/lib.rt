@@ -1,8 +1,7 @@
-// Coordinates: vectors of MAX_STANDARD residues, alone and as rows of a lent array of numbers.
+// Coordinates: vectors of MAX_STANDARD residues.
 //
 //   Coordinates   such a vector
 //   vectors       multiples and differences of vectors, their first nonzero places, and whether two are the same
-//   rows          vectors that stand in an array of numbers
 #![tactic(auto)]
 
 ghost use Rattle.std.specs.Prelude.{◌≡◌, ℕ, ◌<◌};
@@ -12,7 +11,6 @@ ghost use Rattle.coordinates.specs.Vectors.{residue_at, coordinate, indicator, R
 use lines::sizes::MAX_STANDARD;
 use residue::Residue;
 
-pub mod rows;
 pub mod vectors;
 
 // Coefficient k is that of the monomial at place k of a list. That it is below p is a clause of the functions, `Below p`: p is the modulus of the field

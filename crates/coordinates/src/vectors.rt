@@ -1,7 +1,7 @@
 // Multiples and differences of vectors, their first nonzero places, and whether two are the same. No turn of a loop divides.
 ghost use Rattle.std.specs.Prelude.{◌≡◌, true, ◌↔◌, ℕ, ◌<◌, ◌≤◌};
 ghost use Rattle.lines.specs.Sizes.{most_standard};
-ghost use Rattle.coordinates.specs.Vectors.{coordinate, Below, Cut, Represents, subtracted, multiplied, FirstPlace};
+ghost use Rattle.coordinates.specs.Vectors.{coordinate, Below, Cut, Represents, subtracted, multiplied, AddedMultiple, FirstPlace};
 
 use crate::Coordinates;
 use lines::sizes::MAX_STANDARD;
@@ -28,6 +28,19 @@ pub fn multiply(c: Residue, a: Coordinates, field: PrimeField) -> Coordinates
     ensures { Represents field.p result (multiplied field.p c.0 a) }
 {
     Coordinates::tabulate(|k| field.reduce(c.0 * a.c[k].0))
+}
+
+// a + c·b
+pub fn add_multiple(
+    a: Coordinates,
+    c: Residue,
+    other: Coordinates,
+    field: PrimeField,
+) -> Coordinates
+    requires { (c.0 < field.p) × Below field.p a × Below field.p other }
+    ensures { AddedMultiple field.p a c.0 other result }
+{
+    Coordinates::tabulate(|k| field.reduce(a.c[k].0 + c.0 * other.c[k].0))
 }
 
 // The first `count` coefficients, and zeros after them.

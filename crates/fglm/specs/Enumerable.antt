@@ -19,7 +19,8 @@ use Rattle.groebner.specs.Next.{RanksOnce}
 use Rattle.groebner.specs.Enumeration.{Enumerates}
 use Rattle.lines.specs.Sizes.{most_standard}
 use Rattle.staircase.specs.Listed.{listed}
-use Rattle.multiplication.specs.Rows.{cell_of, AllBelow, Tables}
+use Rattle.multiplication.specs.Rows.{cell_of, AllBelow}
+use Rattle.multiplication.specs.declared.rows.Tables.{Tables}
 use Rattle.fglm.specs.Found.{found_lines, found_standard, Printable}
 use Rattle.fglm.specs.declared.lex_basis.LexBasis.{LexBasis}
 

@@ -18,7 +18,8 @@ use Rattle.lines.specs.Sizes.{most_standard}
 use Rattle.staircase.specs.Listed.{listed, listed_at, PlaceAt, Place}
 use Rattle.coordinates.specs.Vectors.{coordinate, indicator, Below, coordinates_of}
 use Rattle.coordinates.specs.declared.Coordinates.{Coordinates}
-use Rattle.multiplication.specs.Rows.{cell_of, Tables, most_cells, tables_of, AllBelow}
+use Rattle.multiplication.specs.Rows.{cell_of, AllBelow}
+use Rattle.multiplication.specs.declared.rows.Tables.{Tables}
 
 -- What stands past the end of a list of rows.
 abbrev pub no_image : Coordinates
@@ -38,10 +39,9 @@ abbrev pub DivisorsFound : (n : ℕ) → List Monomial → Row n → Type 0
 DivisorsFound n l m = (i : ℕ) → i < n → (b : Row n) → m ≡ product n (variable n i) b → b ∈ listed n l
 
 -- What the row of m asks: rows with entries below p and ranks, as many as standard monomials, and m over any of its variables among these.
-pub record ImageInput (p n : ℕ) (m : Monomial) (cells : List ℕ) (images : List Coordinates) (ranks : List ℕ) (standard l : List Monomial) : Type 0 where
+pub record ImageInput (p n : ℕ) (m : Monomial) (t : Tables) (images : List Coordinates) (ranks : List ℕ) (standard l : List Monomial) : Type 0 where
   pub few : length l ≤ most_standard
-  pub cells_size : length cells ≡ most_cells
-  pub cells_below : AllBelow p (tables_of cells)
+  pub below : AllBelow p t
   pub standard_few : length standard ≤ most_standard
   pub images_size : length images ≡ length standard
   pub images_below : Each (Below p) images

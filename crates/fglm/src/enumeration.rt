@@ -1,6 +1,5 @@
 // The FGLM enumeration (document 01, "The walk"): the lex basis of lines that are a Groebner basis in grevlex.
-ghost use Rattle.std.specs.Prelude.{◌≡◌, length, take};
-ghost use Rattle.multiplication.specs.Rows.{most_cells, tables_of};
+ghost use Rattle.std.specs.Prelude.{take};
 ghost use Rattle.fglm.specs.Enumerable.{EnumerationInput, Enumerated};
 
 use crate::elimination::Rows;
@@ -14,21 +13,21 @@ use monomial::Monomial;
 use monomial::count::Variables;
 use monomial::order::Ranking;
 use monomial::rank::rank;
+use multiplication::rows::Tables;
 use residue::reciprocals::Reciprocals;
 use staircase::leads::Leads;
 use staircase::next::next;
 
 // Monomials are visited in rising lex order. One that depends on the standard monomials before it makes a line, whose multiples are passed over.
 pub fn enumerate(
-    cells: &[u16],
+    tables: &Tables,
     irreducibles: &[Monomial],
     ranking: Ranking,
     reciprocals: Reciprocals,
     n: Variables,
 ) -> LexBasis
-    requires { (length cells.now ≡ most_cells)
-        × EnumerationInput reciprocals n (take n ranking.variables) irreducibles.now (tables_of cells.now) }
-    ensures { Enumerated reciprocals n (take n ranking.variables) irreducibles.now (tables_of cells.now) result }
+    requires { EnumerationInput reciprocals n (take n ranking.variables) irreducibles.now tables.now }
+    ensures { Enumerated reciprocals n (take n ranking.variables) irreducibles.now tables.now result }
 {
     let field = reciprocals.field;
     let mut rows = Rows::none();
@@ -39,7 +38,7 @@ pub fn enumerate(
     let mut m = Some(Monomial::one());
     while let Some(v) = m {
         let w = image_of(
-            cells,
+            tables,
             &images,
             &ranks,
             v,

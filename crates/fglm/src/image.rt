@@ -1,7 +1,6 @@
 // The row of a monomial, from the rows of the standard monomials found before.
 ghost use Rattle.std.specs.Prelude.{◌≤◌, length};
 ghost use Rattle.lines.specs.Sizes.{most_standard};
-ghost use Rattle.multiplication.specs.Rows.{tables_of};
 ghost use Rattle.fglm.specs.ImageRows.{OneRow, ImageInput, ImageRow};
 
 use coordinates::Coordinates;
@@ -9,7 +8,7 @@ use monomial::Monomial;
 use monomial::count::Variables;
 use monomial::rank::{rank, rank_place};
 use monomial::variable::{first_variable, over_variable};
-use multiplication::rows::times_variable;
+use multiplication::rows::{Tables, times_variable};
 use residue::field::PrimeField;
 use staircase::place::place_of;
 
@@ -26,7 +25,7 @@ fn one_row(irreducibles: &[Monomial], n: Variables) -> Coordinates
 
 // The row of m: that of 1, or x_i times that of a standard monomial. The image at place s is the row of the standard monomial at place s.
 pub fn image_of(
-    cells: &[u16],
+    tables: &Tables,
     images: &[Coordinates],
     ranks: &[u64],
     m: Monomial,
@@ -35,8 +34,8 @@ pub fn image_of(
     field: PrimeField,
     n: Variables,
 ) -> Coordinates
-    requires { ImageInput field.p n m cells.now images.now ranks.now standard.now irreducibles.now }
-    ensures { ImageRow field.p n m images.now standard.now (tables_of cells.now) irreducibles.now result }
+    requires { ImageInput field.p n m tables.now images.now ranks.now standard.now irreducibles.now }
+    ensures { ImageRow field.p n m images.now standard.now tables.now irreducibles.now result }
 {
     let Some(i) = first_variable(m, n) else {
         return one_row(irreducibles, n);
@@ -44,5 +43,5 @@ pub fn image_of(
     prove!(i < n.count());
     let b = over_variable(m, i, n);
     let s = rank_place(&ranks[..standard.len()], rank(b, n)).unwrap();
-    times_variable(cells, i, images[s], irreducibles.len(), field)
+    times_variable(tables, i, images[s], irreducibles.len(), field)
 }

@@ -13,7 +13,8 @@ use Rattle.staircase.specs.StoredLines.{stored_lines}
 use Rattle.staircase.specs.Sound.{Sound}
 use Rattle.staircase.specs.Listed.{ListsIrreducibles}
 use Rattle.monomial.specs.declared.Monomial.{Monomial}
-use Rattle.multiplication.specs.Rows.{AllBelow, Tables}
+use Rattle.multiplication.specs.Rows.{AllBelow}
+use Rattle.multiplication.specs.declared.rows.Tables.{Tables}
 use Rattle.multiplication.specs.Filling.{AllFilled}
 
 -- The lines of b are sound, no term of one a multiple of another's leading monomial; the list l has their irreducible monomials, finitely many.

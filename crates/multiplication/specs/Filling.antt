@@ -1,7 +1,7 @@
 -- Inner contracts. What filling the rows of the products x_i·B_s asks, and what it gives.
 --   Fillable b l            the lines of b are sound, and the list l has their irreducible monomials
 --   AllFilled b h l t       the tables t have these rows, B the list l
---   FilledRows b l cells    so do the cells, all below p
+--   FilledRows b l t        so they have, all coefficients below p
 use Rattle.std.specs.Prelude.{ℕ, ◌<◌, List, length}
 use Rattle.residue.specs.Field.{modulo}
 use Rattle.monomial.specs.Rows.{one}
@@ -13,7 +13,8 @@ use Rattle.staircase.specs.StoredLines.{stored_lines}
 use Rattle.staircase.specs.Sound.{Sound}
 use Rattle.staircase.specs.Listed.{listed, ListsIrreducibles}
 use Rattle.monomial.specs.declared.Monomial.{Monomial}
-use Rattle.multiplication.specs.Rows.{tables_of, Cells, cell_of, Tables}
+use Rattle.multiplication.specs.Rows.{AllBelow, cell_of}
+use Rattle.multiplication.specs.declared.rows.Tables.{Tables}
 
 -- The lines of b are sound, each led by its greatest monomial, and the list l has their irreducible monomials.
 pub record Fillable (b : StoredBasis) (l : List Monomial) : Type 0 where
@@ -25,7 +26,7 @@ pub record Fillable (b : StoredBasis) (l : List Monomial) : Type 0 where
 abbrev pub AllFilled : (b : StoredBasis) → 1 < b.p → List Monomial → Tables → Type 0
 AllFilled b h l t = (i : ℕ) → i < b.n → (s : ℕ) → s < length l → Filled (modulo b.p h) b.n (stored_lines b h) (listed b.n l) (one b.n) (cell_of b.p h t) i s
 
--- The cells have these rows, all coefficients below p.
-pub record FilledRows (b : StoredBasis) (l : List Monomial) (cells : List ℕ) : Type 0 where
-  pub stored : Cells b.p cells
-  pub filled : (h : 1 < b.p) → AllFilled b h l (tables_of cells)
+-- The tables t have these rows, all coefficients below p.
+pub record FilledRows (b : StoredBasis) (l : List Monomial) (t : Tables) : Type 0 where
+  pub below : AllBelow b.p t
+  pub filled : (h : 1 < b.p) → AllFilled b h l t

@@ -1,61 +1,39 @@
 -- Inner contracts. The rows of the products x_i·B_s, and what they make of coordinates in the irreducible monomials B.
---   Tables                    the coefficients of all rows
---   most_cells                the number of the coefficients of all rows
---   NoRows cells              all coefficients of all rows are 0
---   row_start i s             the place of the first coefficient of the row of x_i·B_s
---   table_row t i s           that row
+--   table_row t i s           the row of x_i·B_s
 --   cell_at t i s k           coefficient k of that row, as a number
---   tables_of cells           the tables that hold these coefficients
+--   NoRows t                  all coefficients of all rows are 0
+--   RowPut t i s w t'         t' has the row w of x_i·B_s, and the other rows of t
 --   AllBelow p t              all coefficients of all rows are below p
---   Cells p cells             the coefficients of all rows, below p
 --   cell_of p h t             coefficient k of the row of x_i·B_s as a residue, a function of i, s and k
 --   Multiplied p t i w d r    r has the coordinates of x_i times what has the coordinates w
 --   CommuteAt p h t d i j s   x_i·(x_j·B_s) and x_j·(x_i·B_s) have the same coordinates
-use Rattle.std.specs.Prelude.{ℕ, ◌+◌, ◌*◌, ◌<◌, ◌≤◌, ◌≡◌, List, length, get_or, replicate}
+use Rattle.std.specs.Prelude.{ℕ, ◌<◌, ◌≤◌, ◌≡◌, List, [], get_or}
 use Rattle.residue.specs.Field.{ZMod, modulo, residue}
-use Rattle.monomial.specs.Sizes.{most_variables}
 use Rattle.groebner.specs.MultiplicationRows.{times_variable}
-use Rattle.lines.specs.Sizes.{most_standard}
 use Rattle.coordinates.specs.Vectors.{coordinate, Below, coordinates_of}
-use Rattle.coordinates.specs.Rows.{row_in}
 use Rattle.coordinates.specs.declared.Coordinates.{Coordinates}
+use Rattle.multiplication.specs.declared.rows.Tables.{Tables}
 
--- The coefficients of all rows.
-pub record Tables : Type 0 where
-  pub cells : List ℕ
-
--- The number of the coefficients of all rows.
-abbrev pub most_cells : ℕ
-most_cells = most_variables * most_standard * most_standard
-
--- All coefficients of all rows are 0.
-abbrev pub NoRows : List ℕ → Type 0
-NoRows cells = cells ≡ replicate most_cells 0
-
--- The place of the first coefficient of the row of x_i·B_s.
-abbrev pub row_start : ℕ → ℕ → ℕ
-row_start i s = (i * most_standard + s) * most_standard
-
--- That row.
+-- The row of x_i·B_s.
 abbrev pub table_row : Tables → ℕ → ℕ → Coordinates
-table_row t i s = row_in t.cells (row_start i s)
+table_row t i s = get_or (get_or t.rows i []) s (record { c = [] })
 
 -- Coefficient k of that row.
 abbrev pub cell_at : Tables → ℕ → ℕ → ℕ → ℕ
-cell_at t i s k = get_or t.cells (row_start i s + k) 0
+cell_at t i s k = coordinate (table_row t i s) k
 
--- The tables that hold these coefficients.
-abbrev pub tables_of : List ℕ → Tables
-tables_of l = record { cells = l }
+-- All coefficients of all rows are 0.
+abbrev pub NoRows : Tables → Type 0
+NoRows t = (i s k : ℕ) → cell_at t i s k ≡ 0
+
+-- t' has the row w of x_i·B_s, and the other rows of t.
+pub record RowPut (t : Tables) (i s : ℕ) (w : Coordinates) (t' : Tables) : Type 0 where
+  pub own : table_row t' i s ≡ w
+  pub others : (j r : ℕ) → ¬ ((j ≡ i) × (r ≡ s)) → table_row t' j r ≡ table_row t j r
 
 -- All coefficients of all rows are below p.
 pub record AllBelow (p : ℕ) (t : Tables) : Type 0 where
-  pub cell : (q : ℕ) → get_or t.cells q 0 < p
-
--- The coefficients of all rows, below p.
-pub record Cells (p : ℕ) (cells : List ℕ) : Type 0 where
-  pub size : length cells ≡ most_cells
-  pub below : AllBelow p (tables_of cells)
+  pub cell : (i s k : ℕ) → cell_at t i s k < p
 
 -- Coefficient k of the row of x_i·B_s as a residue.
 unfoldable pub cell_of : (p : ℕ) → 1 < p → Tables → ℕ → ℕ → ℕ → ZMod p

@@ -13,7 +13,8 @@ use Rattle.staircase.specs.Listed.{listed, listed_at, PlaceAt, Place}
 use Rattle.monomial.specs.declared.Monomial.{Monomial}
 use Rattle.coordinates.specs.Vectors.{coordinate, indicator, Below}
 use Rattle.coordinates.specs.declared.Coordinates.{Coordinates}
-use Rattle.multiplication.specs.Rows.{table_row, Multiplied, Tables}
+use Rattle.multiplication.specs.Rows.{table_row, Multiplied}
+use Rattle.multiplication.specs.declared.rows.Tables.{Tables}
 use Rattle.multiplication.specs.Passes.{Detour}
 
 -- An exponent e is not 0, and w less x is none of the ranks.

@@ -9,15 +9,14 @@ ghost use Rattle.monomial.specs.declared.Monomial.{Monomial};
 ghost use Rattle.lines.specs.Sizes.{most_standard};
 ghost use Rattle.staircase.specs.Sound.{SoundLine};
 ghost use Rattle.coordinates.specs.Vectors.{Below};
-ghost use Rattle.multiplication.specs.Rows.{NoRows, tables_of, Cells};
+ghost use Rattle.multiplication.specs.Rows.{NoRows, AllBelow};
 ghost use Rattle.multiplication.specs.Rules.{PassesBy, SomePasses, Unlisted, Through, ProductRow, MadeRow};
 ghost use Rattle.multiplication.specs.RankedLists.{RankedList, ProductAt, ProductRank, FirstRanks};
 ghost use Rattle.multiplication.specs.Tails.{Subtracted, TailRow, DistinctRanks};
 ghost use Rattle.multiplication.specs.Filling.{Fillable, FilledRows};
 
-use crate::rows::{row_start, times_variable};
+use crate::rows::{Tables, times_variable};
 use coordinates::Coordinates;
-use coordinates::rows::{put_row, row_at};
 use lines::StoredBasis;
 use lines::line::LineTerm;
 use lines::sizes::{MAX_LINES, MAX_STANDARD};
@@ -86,7 +85,7 @@ fn variable_through(
 
 // The row of x_i·B_s of rank w, which is neither listed nor a leading monomial: with B_s = x_j·c and x_i·c reducible it is x_j times the row of x_i·c.
 fn product_row(
-    cells: &[u16],
+    tables: &Tables,
     ranks: &[u64],
     variables: &[u64],
     irreducibles: &[Monomial],
@@ -97,19 +96,18 @@ fn product_row(
     field: PrimeField,
 ) -> Coordinates
     requires { let l = irreducibles.now in
-        Cells field.p cells.now × RankedList n l ranks.now variables.now × ProductAt n l i place wanted × Through n l i place }
-    ensures { ProductRow field.p n irreducibles.now (tables_of cells.now) i place result }
+        AllBelow field.p tables.now × RankedList n l ranks.now variables.now × ProductAt n l i place wanted × Through n l i place }
+    ensures { ProductRow field.p n irreducibles.now tables.now i place result }
 {
     let m = irreducibles[place];
     let j = variable_through(ranks, variables, m, wanted, n);
     let at = rank_place(ranks, ranks[place] - variables[j]).unwrap();
-    let row = row_at(cells, row_start(i, at));
-    times_variable(cells, j, row, irreducibles.len(), field)
+    times_variable(tables, j, tables.rows[i][at], irreducibles.len(), field)
 }
 
 // The row of x_i·B_s of rank w, which is no leading monomial: a unit row if it is listed, and otherwise a product.
 fn row_for(
-    cells: &[u16],
+    tables: &Tables,
     ranks: &[u64],
     variables: &[u64],
     irreducibles: &[Monomial],
@@ -119,15 +117,15 @@ fn row_for(
     n: Variables,
     field: PrimeField,
 ) -> Coordinates
-    requires { let l = irreducibles.now in Cells field.p cells.now × RankedList n l ranks.now variables.now × ProductAt n l i place wanted
+    requires { let l = irreducibles.now in AllBelow field.p tables.now × RankedList n l ranks.now variables.now × ProductAt n l i place wanted
         × (Unlisted n l i place → Through n l i place) }
-    ensures { MadeRow field.p n irreducibles.now (tables_of cells.now) i place result }
+    ensures { MadeRow field.p n irreducibles.now tables.now i place result }
 {
     if let Some(k) = place_after(ranks, place + 1, wanted) {
         return Coordinates::unit(k);
     }
     product_row(
-        cells,
+        tables,
         ranks,
         variables,
         irreducibles,
@@ -165,9 +163,9 @@ fn put_first_ranks(next: &mut [u64], ranks: &[u64], variables: &[u64], n: Variab
 }
 
 // All rows, in rising order of the products: the next products of the n variables are merged by their ranks.
-pub fn fill(cells: &mut [u16], basis: &StoredBasis, irreducibles: &[Monomial])
-    requires { NoRows cells.old × Fillable basis.now irreducibles.now }
-    ensures { FilledRows basis.now irreducibles.now cells.new }
+pub fn fill(tables: &mut Tables, basis: &StoredBasis, irreducibles: &[Monomial])
+    requires { NoRows tables.old × Fillable basis.now irreducibles.now }
+    ensures { FilledRows basis.now irreducibles.now tables.new }
 {
     let mut c = Cursors {
         at: [0; MAX_VARIABLES],
@@ -189,9 +187,19 @@ pub fn fill(cells: &mut [u16], basis: &StoredBasis, irreducibles: &[Monomial])
                 let g = &basis.lines[k];
                 tail_row(&ranks, g, n, basis.p)
             }
-            None => row_for(&*cells, &ranks, &variables, irreducibles, w, i, s, n, field),
+            None => row_for(
+                &*tables,
+                &ranks,
+                &variables,
+                irreducibles,
+                w,
+                i,
+                s,
+                n,
+                field,
+            ),
         };
-        put_row(&mut *cells, row_start(i, s), row);
+        tables.put(i, s, row);
         c.at[i] = s + 1;
         let x = variables[i];
         next[i] = product_rank(&ranks, x, s + 1);
