@@ -12,7 +12,8 @@ use Rattle.groebner.specs.MultiplicationRows.{RowsCommute}
 use Rattle.lines.specs.Sizes.{most_standard}
 use Rattle.coordinates.specs.Vectors.{coordinate, coordinates_of}
 use Rattle.coordinates.specs.declared.Coordinates.{Coordinates}
-use Rattle.multiplication.specs.Rows.{table_row, cell_of, Multiplied, CommuteAt, Tables}
+use Rattle.multiplication.specs.Rows.{table_row, cell_of, Multiplied, CommuteAt}
+use Rattle.multiplication.specs.declared.rows.Tables.{Tables}
 use Rattle.multiplication.proofs.RowSums.{multiply-row}
 
 pub commute-iff : {p : ℕ} (h : 1 < p) {t : Tables} {d i j : ℕ} (s : ℕ) {a b : Coordinates} → d ≤ most_standard → Multiplied p t i (table_row t j s) d a → Multiplied p t j (table_row t i s) d b

@@ -36,9 +36,9 @@ use Rattle.monomial.specs.declared.Monomial.{Monomial}
 use Rattle.staircase.proofs.ArrayRows.{rows-length}
 use Rattle.staircase.proofs.LineLeads.{leads-length}
 use Rattle.staircase.proofs.RankedLists.{ranks-rising}
-use Rattle.coordinates.specs.Rows.{RowPut}
 use Rattle.coordinates.specs.declared.Coordinates.{Coordinates}
-use Rattle.multiplication.specs.Rows.{NoRows, row_start, tables_of}
+use Rattle.multiplication.specs.Rows.{NoRows, RowPut}
+use Rattle.multiplication.specs.declared.rows.Tables.{Tables}
 use Rattle.multiplication.specs.Tails.{TailRow, DistinctRanks}
 use Rattle.multiplication.specs.Rules.{Unlisted, Through, MadeRow}
 use Rattle.multiplication.specs.RankedLists.{Listing, RankedList, ProductAt, ProductRank}
@@ -78,20 +78,20 @@ pub all-bounded : {n : ℕ} {l : List Monomial} {rs xs : List ℕ} → RankedLis
 all-bounded {n} ranked k u = ranks-bounded n ranked.listing.variables ranked.ranks k (omega (arith, u, ranked.size))
 
 -- The rows below the cursors are filled, and the ranks of the next products are held.
-pub record FillLoop (b : StoredBasis) (l : List Monomial) (rs xs gs cells : List ℕ) (c : Cursors) (next : List ℕ) : Type 0 where
+pub record FillLoop (b : StoredBasis) (l : List Monomial) (rs xs gs : List ℕ) (t : Tables) (c : Cursors) (next : List ℕ) : Type 0 where
   pub known : Prepared b l rs xs gs
-  pub filling : Filling b l (tables_of cells) c
+  pub filling : Filling b l t c
   pub nexts : Nexts b.n l c next
 
-module _ {b : StoredBasis} {l : List Monomial} {rs xs gs cells : List ℕ} {c : Cursors} {next : List ℕ} where
-  pub fill_start : Prepared b l rs xs gs → NoRows cells → c.at ≡ replicate most_variables 0 → Nexts b.n l c next → FillLoop b l rs xs gs cells c next
+module _ {b : StoredBasis} {l : List Monomial} {rs xs gs : List ℕ} {t : Tables} {c : Cursors} {next : List ℕ} where
+  pub fill_start : Prepared b l rs xs gs → NoRows t → c.at ≡ replicate most_variables 0 → Nexts b.n l c next → FillLoop b l rs xs gs t c next
   fill_start known none z nexts = record {
     known = known;
     filling = filling-none (omega (arith, known.given.sound.modulus.prime.above_one)) none z;
     nexts = nexts;
   }
 
-  module _ (loop : FillLoop b l rs xs gs cells c next) where
+  module _ (loop : FillLoop b l rs xs gs t c next) where
     open loop use {known, filling, nexts}
 
     pub fill-bounded : Bounded (take b.n next) (length (take b.n next))
@@ -109,8 +109,8 @@ module _ {b : StoredBasis} {l : List Monomial} {rs xs gs cells : List ℕ} {c : 
       best : Best b.n l c first
       best = nexts-best known.ranked.listing nexts found
 
-      pub fill_stop : first ≡ None → FilledRows b l cells
-      fill_stop e = record { stored = filling.stored; filled = filling-all filling known.given best e }
+      pub fill_stop : first ≡ None → FilledRows b l t
+      fill_stop e = record { below = filling.below; filled = filling-all filling known.given best e }
 
       module _ {i : ℕ} (is : first ≡ Some i) where
         at_i : BestAt b.n l c i
@@ -140,20 +140,20 @@ module _ {b : StoredBasis} {l : List Monomial} {rs xs gs cells : List ℕ} {c : 
             pub fill-line : k < length b.lines.items
             fill-line = omega (arith, led.within, rows-length b.n (leads_in b), leads-length b)
 
-            pub fill-led : {w : Coordinates} → TailRow b.p b.n (generator_at b k) l w → RowFor b l (tables_of cells) i (cursor c i) w
-            fill-led = row-led b known.given.sound l known.given.irreducibles (tables_of cells) i (cursor c i) hi fill-inside led
+            pub fill-led : {w : Coordinates} → TailRow b.p b.n (generator_at b k) l w → RowFor b l t i (cursor c i) w
+            fill-led = row-led b known.given.sound l known.given.irreducibles t i (cursor c i) hi fill-inside led
 
           module _ (s : r ≡ None) where
             pub fill-through : Unlisted b.n l i (cursor c i) → Through b.n l i (cursor c i)
-            fill-through = comes-through b known.given.sound l known.given.irreducibles (tables_of cells) i (cursor c i) hi fill-inside (rw s at lead)
+            fill-through = comes-through b known.given.sound l known.given.irreducibles t i (cursor c i) hi fill-inside (rw s at lead)
 
-            pub fill-made : {w : Coordinates} → MadeRow b.p b.n l (tables_of cells) i (cursor c i) w → RowFor b l (tables_of cells) i (cursor c i) w
-            fill-made = row_made b known.given.sound l known.given.irreducibles (tables_of cells) i (cursor c i) hi fill-inside
+            pub fill-made : {w : Coordinates} → MadeRow b.p b.n l t i (cursor c i) w → RowFor b l t i (cursor c i) w
+            fill-made = row_made b known.given.sound l known.given.irreducibles t i (cursor c i) hi fill-inside
 
         module _ {r : ℕ} (rank : ProductRank rs (get_or xs i 0) (cursor c i + 1) r) where
           fill-nexts : Nexts b.n l (record { at = set c.at i (cursor c i + 1) }) (set next i r)
           fill-nexts = nexts-more _ _ known.ranked.size known.ranked.ranks known.ranked.variables nexts i hi fill-place.1 filling.cursors r rank
 
-          pub fill-turn : {w : Coordinates} {cells' : List ℕ} → RowFor b l (tables_of cells) i (cursor c i) w → RowPut cells (row_start i (cursor c i)) w cells'
-              → FillLoop b l rs xs gs cells' (record { at = set c.at i (cursor c i + 1) }) (set next i r)
+          pub fill-turn : {w : Coordinates} {t' : Tables} → RowFor b l t i (cursor c i) w → RowPut t i (cursor c i) w t'
+              → FillLoop b l rs xs gs t' (record { at = set c.at i (cursor c i + 1) }) (set next i r)
           fill-turn new put = record { known = known; filling = filling-more filling known.given at_i new put; nexts = fill-nexts }

@@ -7,7 +7,7 @@ use mathlib.Core.Bool.{Bool, true}
 use mathlib.Core.List.{List}
 use mathlib.Core.Logic.Iff
 use mathlib.Core.Logic.{◌↔◌}
-use Prim.Native.Nat.{ℕ, ◌<◌}
+use Prim.Native.Nat.{◌<◌}
 use native.Mathlib.Omega.{arith}
 use lib.ListN.{length}
 use Rattle.residue.specs.Prime.{Prime}
@@ -30,7 +30,8 @@ use Rattle.staircase.specs.Listed.{listed}
 use Rattle.monomial.specs.declared.Monomial.{Monomial}
 use Rattle.staircase.proofs.ArrayRows.{rows-length}
 use Rattle.staircase.proofs.LineElements.{stored-lines-length}
-use Rattle.multiplication.specs.Rows.{tables_of, cell_of, Tables}
+use Rattle.multiplication.specs.Rows.{cell_of}
+use Rattle.multiplication.specs.declared.rows.Tables.{Tables}
 use Rattle.multiplication.specs.Filling.{Fillable, FilledRows}
 use Rattle.multiplication.specs.Criterion.{Candidate, Acceptance}
 
@@ -46,10 +47,7 @@ module _ {b : StoredBasis} {l : List Monomial} (candidate : Candidate b l) where
   pub candidate-fillable : Fillable b l
   candidate-fillable = record { sound = sound; irreducibles = irreducibles; low = low }
 
-  module _ {cells : List ℕ} (rows : FilledRows b l cells) (r : Bool) where
-    abbrev t : Tables
-    t = tables_of cells
-
+  module _ {t : Tables} (rows : FilledRows b l t) (r : Bool) where
     rows-decide : (h : 1 < b.p)
         → RowsCommute (modulo b.p h) b.n (length l) (cell_of b.p h t) ↔ Groebner (modulo b.p h) (monomials b.n) (Grevlex b.n) (stored_lines b h)
     rows-decide h =
@@ -63,7 +61,7 @@ module _ {b : StoredBasis} {l : List Monomial} (candidate : Candidate b l) where
     answered groebner = record {
       groebner = groebner;
       buchberger = λ h. Iff.trans (groebner h) (Iff.symm (criterion b.p (prime_at b sound h) b.n (stored_lines b h) (lines h)));
-      below = rows.stored.below;
+      below = rows.below;
       filled = rows.filled;
     }
 

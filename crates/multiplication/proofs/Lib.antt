@@ -28,6 +28,7 @@ pub mod Passing
 pub mod RowRules
 pub mod NextProducts
 pub mod Merging
+pub mod TableRows
 pub mod AllRows
 pub mod FillLoop
 pub mod GroebnerTest

@@ -20,7 +20,8 @@ use Rattle.staircase.specs.Listed.{listed}
 use Rattle.monomial.specs.declared.Monomial.{Monomial}
 use Rattle.coordinates.specs.Vectors.{Below, coordinates_of}
 use Rattle.coordinates.specs.declared.Coordinates.{Coordinates}
-use Rattle.multiplication.specs.Rows.{cell_of, Tables}
+use Rattle.multiplication.specs.Rows.{cell_of}
+use Rattle.multiplication.specs.declared.rows.Tables.{Tables}
 
 module _ {F : Type 0} (R : Arithmetic F) (n : ℕ) (G : List (Line F (Row n))) (B : List (Row n)) (d : Row n) where
   -- x_i·B_s

@@ -55,7 +55,8 @@ use Rattle.staircase.proofs.LineLeads.{leads-length, leads-held}
 use Rattle.coordinates.specs.Vectors.{coordinate, indicator, coordinates_of}
 use Rattle.coordinates.specs.declared.Coordinates.{Coordinates}
 use Rattle.coordinates.proofs.UnitRows.{indicator-same, indicator-other}
-use Rattle.multiplication.specs.Rows.{table_row, cell_of, Multiplied, Tables}
+use Rattle.multiplication.specs.Rows.{table_row, cell_of, Multiplied}
+use Rattle.multiplication.specs.declared.rows.Tables.{Tables}
 use Rattle.multiplication.specs.Tails.{TailRow}
 use Rattle.multiplication.specs.Passes.{Detour}
 use Rattle.multiplication.specs.Rules.{Unlisted, Through, MadeBy, MadeRow}

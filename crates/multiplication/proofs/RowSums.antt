@@ -7,7 +7,6 @@
 --   table-row-below      a row of the tables is below p
 --   multiply-row         a product with a row of the tables
 use mathlib.Core.Path.{◌≡◌, refl, sym, ◌∙◌, ap, ap₂, subst}
-use mathlib.Core.List.{List}
 use mathlib.Core.Logic.{by_cases}
 use Prim.Native.Nat.{ℕ, ◌+◌, ◌*◌, ◌%◌, ◌<◌, ◌≤◌}
 use native.Mathlib.Nat.{zero-mod}
@@ -16,15 +15,13 @@ use native.Mathlib.Omega.{arith}
 use Rattle.residue.specs.Field.{modulo, residue}
 use Rattle.residue.proofs.ResidueField.{residue-ring}
 use Rattle.residue.proofs.Residues.{residue-mod}
-use Rattle.monomial.specs.Sizes.{most_variables}
 use Rattle.groebner.specs.MultiplicationRows.{times_variable}
 use Rattle.groebner.proofs.DotProducts.{dot-on}
 use Rattle.lines.specs.Sizes.{most_standard}
-use Rattle.coordinates.specs.Vectors.{coordinate, Below, Cut, coordinates_of}
-use Rattle.coordinates.specs.Rows.{AddedMultiple}
+use Rattle.coordinates.specs.Vectors.{coordinate, Below, Cut, AddedMultiple, coordinates_of}
 use Rattle.coordinates.specs.declared.Coordinates.{Coordinates}
-use Rattle.coordinates.proofs.RowArrays.{row-coordinate, row_below}
-use Rattle.multiplication.specs.Rows.{row_start, table_row, tables_of, cell_at, Cells, cell_of, Multiplied, Tables}
+use Rattle.multiplication.specs.Rows.{table_row, cell_at, AllBelow, cell_of, Multiplied}
+use Rattle.multiplication.specs.declared.rows.Tables.{Tables}
 use Rattle.multiplication.proofs.NaturalSums.{dot_product, total-more, total-none, residue-total}
 
 pub record Summed (p : ℕ) (t : Tables) (i : ℕ) (w a : Coordinates) (r : ℕ) : Type 0 where
@@ -40,7 +37,7 @@ module _ {p : ℕ} {t : Tables} {i : ℕ} {w a : Coordinates} where
     pub summed-row : {b : Coordinates} → AddedMultiple p a (coordinate w r) (table_row t i r) b → Summed p t i w b (r + 1)
     summed-row q = record {
       below = q.below;
-      sums = λ k h. q.sums k h ∙ ap₂ (λ x y. (x + coordinate w r * y) % p) (summed.sums k h) (row-coordinate t.cells (row_start i r) k h) ∙ total-more p r (coordinate w) (λ s. cell_at t i s k);
+      sums = λ k h. q.sums k h ∙ ap₂ (λ x y. (x + coordinate w r * y) % p) (summed.sums k h) refl ∙ total-more p r (coordinate w) (λ s. cell_at t i s k);
     }
 
     pub summed-none : coordinate w r ≡ 0 → Summed p t i w a (r + 1)
@@ -57,10 +54,10 @@ module _ {p : ℕ} {t : Tables} {i : ℕ} {w a : Coordinates} where
       coordinates = λ h k l. ap (residue p h) (q.front k l ∙ summed.sums k (omega arith)) ∙ residue-mod p h _ ∙ residue-total p h r _ _;
     }
 
-pub table-row-below : {p : ℕ} {l : List ℕ} → Cells p l → (i s : ℕ) → i < most_variables → s < most_standard → Below p (table_row (tables_of l) i s)
-table-row-below {p} {l} cells i s hi hs = row_below l (row_start i s) (omega (arith, cells.size)) p (omega (arith, cells.below.cell 0)) cells.below.cell
+pub table-row-below : {p : ℕ} {t : Tables} → AllBelow p t → (i s : ℕ) → Below p (table_row t i s)
+table-row-below all i s = record { below = all.cell i s }
 
 pub multiply-row : (t : Tables) (i s p : ℕ) (h : 1 < p) (d : ℕ) → d ≤ most_standard → (j k : ℕ)
     → times_variable (modulo p h) d (cell_of p h t) j (coordinates_of p h (table_row t i s)) k ≡ times_variable (modulo p h) d (cell_of p h t) j (cell_of p h t i s) k
 unfolding coordinates_of cell_of
-multiply-row t i s p h d u j k = dot-on (residue-ring p h) d _ _ _ _ (λ r v. ap (residue p h) (row-coordinate t.cells (row_start i s) r (omega arith))) (λ r v. refl)
+multiply-row t i s p h d u j k = dot-on (residue-ring p h) d _ _ _ _ (λ r v. refl) (λ r v. refl)

@@ -7,7 +7,7 @@
 --   cell_of p h t             coefficient k of the row of x_i·B_s as a residue, a function of i, s and k
 --   Multiplied p t i w d r    r has the coordinates of x_i times what has the coordinates w
 --   CommuteAt p h t d i j s   x_i·(x_j·B_s) and x_j·(x_i·B_s) have the same coordinates
-use Rattle.std.specs.Prelude.{ℕ, ◌<◌, ◌≤◌, ◌≡◌, List, [], get_or}
+use Rattle.std.specs.Prelude.{ℕ, ◌<◌, ◌≤◌, ◌≡◌, [], get_or}
 use Rattle.residue.specs.Field.{ZMod, modulo, residue}
 use Rattle.groebner.specs.MultiplicationRows.{times_variable}
 use Rattle.coordinates.specs.Vectors.{coordinate, Below, coordinates_of}

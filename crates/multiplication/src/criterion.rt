@@ -11,11 +11,7 @@ use residue::field::PrimeField;
 
 // Whether the lines are a Groebner basis; the rows are left in the lent tables. The irreducible monomials stand in rising grevlex order.
 // As many lines as variables have coprime leading monomials, and are a Groebner basis.
-pub fn is_groebner(
-    tables: &mut Tables,
-    basis: &StoredBasis,
-    irreducibles: &[Monomial],
-) -> bool
+pub fn is_groebner(tables: &mut Tables, basis: &StoredBasis, irreducibles: &[Monomial]) -> bool
     requires { NoRows tables.old × Candidate basis.now irreducibles.now }
     ensures { Acceptance basis.now irreducibles.now result tables.new }
 {

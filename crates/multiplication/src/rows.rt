@@ -1,5 +1,5 @@
 // The rows of the products x_i·B_s, and what these rows make of coordinates in the irreducible monomials B.
-ghost use Rattle.std.specs.Prelude.{◌≡◌, ◌<◌, ◌≤◌};
+ghost use Rattle.std.specs.Prelude.{◌≡◌, ◌<◌, ◌≤◌, length, set};
 ghost use Rattle.monomial.specs.Sizes.{most_variables};
 ghost use Rattle.lines.specs.Sizes.{most_standard};
 ghost use Rattle.coordinates.specs.Vectors.{Below};
@@ -17,6 +17,14 @@ pub struct Tables {
     pub rows: [[Coordinates; MAX_STANDARD]; MAX_VARIABLES],
 }
 
+// A row is stored at a place of the rows of one variable, of which there are most_standard.
+fn put_at(rows: &mut [Coordinates; MAX_STANDARD], s: usize, row: Coordinates)
+    requires { s < most_standard }
+    ensures { (length rows.old ≡ most_standard) × (rows.new ≡ set rows.old s row) }
+{
+    rows[s] = row;
+}
+
 impl Tables {
     // All rows zero.
     pub fn none() -> Tables
@@ -32,7 +40,7 @@ impl Tables {
         requires { (i < most_variables) × (s < most_standard) }
         ensures { RowPut self.old i s row self.new }
     {
-        self.rows[i][s] = row;
+        put_at(&mut self.rows[i], s, row);
     }
 }
 

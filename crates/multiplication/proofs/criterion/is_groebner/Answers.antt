@@ -8,14 +8,12 @@ pub fill-requires : goal.fill-requires
 fill-requires c = (c.requires.0, candidate-fillable c.requires.1)
 
 pub commute-requires : goal.commute-requires
-commute-requires c = (rw c.new-field.ensures c.fill.ensures.stored, c.requires.1.irreducibles.few)
+commute-requires c = (rw c.new-field.ensures c.fill.ensures.below, c.requires.1.irreducibles.few)
 
 pub returns-then-len-count : goal.returns-then-len-count
 returns-then-len-count c =
-    let rows = c.fill.ensures in
-    (rows.stored.size, square-acceptance c.requires.1 rows _ (omega arith) (eq-eqb _ _ c.if-len-count.true))
+    square-acceptance c.requires.1 c.fill.ensures _ (omega arith) (eq-eqb _ _ c.if-len-count.true)
 
 pub returns-else-len-count : goal.returns-else-len-count
 returns-else-len-count c =
-    let rows = c.fill.ensures in
-    (rows.stored.size, acceptance c.requires.1 rows _ (rw c.new-field.ensures at c.commute.ensures))
+    acceptance c.requires.1 c.fill.ensures _ (rw c.new-field.ensures at c.commute.ensures)

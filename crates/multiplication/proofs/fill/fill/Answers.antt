@@ -1,5 +1,5 @@
 -- `fill` meets its contract. The loop's invariant: the rows below the cursors are filled, and the ranks of the next products are held.
-use mathlib.Core.Path.{refl, sym, ◌∙◌, subst}
+use mathlib.Core.Path.{refl, sym, subst}
 use Prim.Native.Nat.{◌<◌}
 use lib.ListN.{length, get_or, take, replicate}
 use native.Mathlib.Omega.{arith}
@@ -10,10 +10,9 @@ use Rattle.monomial.specs.Ranks.{FirstRank, NextRank}
 use Rattle.monomial.proofs.RankPlaces.{variables-bounded}
 use Rattle.lines.specs.Sizes.{most_standard}
 use Rattle.staircase.proofs.LineElements.{generator-read}
-use Rattle.multiplication.specs.Rows.{tables_of}
 use Rattle.multiplication.proofs.NewRows.{RowFor}
 use Rattle.multiplication.proofs.NextProducts.{cursor, Nexts, nexts-first}
-use Rattle.multiplication.proofs.AllRows.{no-rows-length, room-less}
+use Rattle.multiplication.proofs.AllRows.{room-less}
 use Rattle.multiplication.proofs.FillLoop.{Prepared, prepared, fill_start, fill-bounded, fill-inside, fill-place, fill-product, fill-line, fill-led, fill-distinct, all-bounded, fill-through, fill-made, fill-turn, fill_stop}
 use Rattle.multiplication.proofs.fill.fill.Goals.{After-put_first_ranks, After-next_place, After-rank_place, After-put_variable_ranks, In-Some, In-Some-rank_place, Joined-rank_place, Start, in-None, in-Some-rank_place}
 use Rattle.multiplication.proofs.fill.fill.Goals as goal
@@ -95,20 +94,20 @@ row_for-row-requires c =
     let inv = c.loop-i.invariant in
     let next = (least (goal.at.row_for-row-requires c).After-next_place) in
     let is = c.in-Some.is in (
-      rw c.new-field.ensures inv.filling.stored,
+      rw c.new-field.ensures inv.filling.below,
       rw c.deref-in-None.ensures.0 inv.known.ranked,
       fill-product inv next is,
       fill-through inv next is (found (goal.at.row_for-row-requires c).After-rank_place) c.in-None.is,
     )
 
 -- The row that is stored.
-row : (c : Joined-rank_place) → RowFor c.args.basis.now c.args.irreducibles.now (tables_of c.loop-i.cells) c.in-Some.i (cursor c.loop-i.c c.in-Some.i) c.match-rank_place.row
+row : (c : Joined-rank_place) → RowFor c.args.basis.now c.args.irreducibles.now c.loop-i.tables c.in-Some.i (cursor c.loop-i.c c.in-Some.i) c.match-rank_place.row
 row c =
     let inv = c.loop-i.invariant in
     let next = (least (goal.at.Joined-rank_place c).After-next_place) in
     let some = c.in-Some.is in
     let place = found (goal.at.Joined-rank_place c).After-rank_place in
-    let is = RowFor c.args.basis.now c.args.irreducibles.now (tables_of c.loop-i.cells) c.in-Some.i (cursor c.loop-i.c c.in-Some.i) in
+    let is = RowFor c.args.basis.now c.args.irreducibles.now c.loop-i.tables c.in-Some.i (cursor c.loop-i.c c.in-Some.i) in
     elim c.match-rank_place.branch [
       | in-Some-rank_place w ↦
           let s = w.in-Some-rank_place.is in
@@ -119,11 +118,8 @@ row c =
       | in-None w ↦ subst is (sym w.row-is) (fill-made inv next some place w.in-None.is (rw c.new-field.ensures at w.row_for-row.ensures))
     ]
 
-pub put_row-requires : goal.put_row-requires
-put_row-requires c = omega (arith, c.row_start.ensures, bounds (goal.at.put_row-requires c).In-Some, c.loop-i.invariant.filling.stored.size)
-
-pub row_start-requires : goal.row_start-requires
-row_start-requires c = omega (arith, bounds (goal.at.row_start-requires c).In-Some)
+pub put-requires : goal.put-requires
+put-requires c = let (_, hi, hs) = bounds (goal.at.put-requires c).In-Some in (hi, hs)
 
 pub overflow_add-c : goal.overflow_add-c
 overflow_add-c c = omega (arith, bounds (goal.at.overflow_add-c c).In-Some)
@@ -162,10 +158,7 @@ loop-i-smaller c =
 
 pub loop-i-preserved : goal.loop-i-preserved
 loop-i-preserved c =
-    fill-turn c.loop-i.invariant (least (goal.at.loop-i-preserved c).After-next_place) c.in-Some.is (rw c.deref-in-Some-2.ensures.0 at c.product_rank.ensures) (row (goal.at.loop-i-preserved c).Joined-rank_place) (rw c.row_start.ensures at c.put_row.ensures)
-
-pub shape_of-cells : goal.shape_of-cells
-shape_of-cells c = c.loop-i.invariant.filling.stored.size ∙ sym (no-rows-length c.requires.0)
+    fill-turn c.loop-i.invariant (least (goal.at.loop-i-preserved c).After-next_place) c.in-Some.is (rw c.deref-in-Some-2.ensures.0 at c.product_rank.ensures) (row (goal.at.loop-i-preserved c).Joined-rank_place) c.put.ensures
 
 pub returns : goal.returns
 returns c = fill_stop c.loop-i.invariant (least (goal.at.returns c).After-next_place) c.in_default.is

@@ -69,19 +69,19 @@ bounds-variables-j c =
 pub overflow_sub-ranks : goal.overflow_sub-ranks
 overflow_sub-ranks c = omega (arith, rank-at (goal.at.overflow_sub-ranks c).After-variable_through-j)
 
-pub row_at-row-requires : goal.row_at-row-requires
-row_at-row-requires c =
-    let (cells, _, _, _) = c.requires in
-    omega (arith, c.row_start.ensures, cells.size, inside (goal.at.row_at-row-requires c).After-unwrap-at)
+pub offset_bounds-tables-at : goal.offset_bounds-tables-at
+offset_bounds-tables-at c = omega (arith, inside (goal.at.offset_bounds-tables-at c).After-unwrap-at)
+
+pub bounds-tables-at : goal.bounds-tables-at
+bounds-tables-at c = omega (arith, inside (goal.at.bounds-tables-at c).After-unwrap-at)
 
 pub times_variable-requires : goal.times_variable-requires
 times_variable-requires c =
-    let (cells, ranked, _, _) = c.requires in
-    let (hi, hs) = inside (goal.at.times_variable-requires c).After-unwrap-at in (
-      cells,
+    let (all, ranked, _, _) = c.requires in (
+      all,
       omega (arith, c.variable_through-j.ensures.0, ranked.listing.variables),
       ranked.listing.few,
-      rw (c.row_at-row.ensures, c.row_start.ensures) (table-row-below cells _ _ hi hs),
+      table-row-below all c.args.i c.unwrap-at.result,
     )
 
 pub returns : goal.returns
@@ -92,8 +92,5 @@ returns c =
       within = c.variable_through-j.ensures.0;
       passes = passes_at (goal.at.returns c).After-variable_through-j;
       place = place_at (goal.at.returns c).After-unwrap-at;
-      multiplied = rw (c.row_at-row.ensures, c.row_start.ensures) at c.times_variable.ensures;
+      multiplied = c.times_variable.ensures;
     }
-
-pub row_start-requires : goal.row_start-requires
-row_start-requires c = inside c

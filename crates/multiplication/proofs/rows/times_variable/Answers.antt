@@ -3,7 +3,6 @@ use Prim.Native.Nat.{◌<◌, ◌+◌}
 use mathlib.Core.Path.{◌≡◌, sym, subst}
 use native.Mathlib.Omega.{arith}
 use Rattle.coordinates.specs.declared.Coordinates.{Coordinates}
-use Rattle.multiplication.specs.Rows.{tables_of}
 use Rattle.multiplication.proofs.RowSums.{Summed, summed-start, summed-row, summed-none, summed-whole, table-row-below}
 use Rattle.multiplication.proofs.rows.times_variable.Goals.{Start, then-c-ne0, else-c-ne0}
 use Rattle.multiplication.proofs.rows.times_variable.Goals as goal
@@ -16,17 +15,16 @@ loop-r-init c = summed-start (positive (goal.at.loop-r-init c).Start) c.zero-sum
 
 pub add_multiple-sum-requires : goal.add_multiple-sum-requires
 add_multiple-sum-requires c =
-    let (cells, u, v, w) = c.requires in
-    let below = table-row-below cells _ c.loop-r.r u (omega arith) in
-    (omega (arith, c.row_start.ensures, cells.size), w.below c.loop-r.r, c.loop-r.invariant.below, rw c.row_start.ensures below)
+    let (all, _, _, w) = c.requires in
+    (w.below c.loop-r.r, c.loop-r.invariant.below, table-row-below all c.args.i c.loop-r.r)
 
 pub loop-r-preserved : goal.loop-r-preserved
 loop-r-preserved c =
     let a = c.args in
     let i = c.loop-r.invariant in
-    let at : Coordinates → Type 0 = λ x. Summed a.field.p (tables_of a.cells.now) a.i a.vector x (c.loop-r.r + 1) in
+    let at : Coordinates → Type 0 = λ x. Summed a.field.p a.tables.now a.i a.vector x (c.loop-r.r + 1) in
     elim c.if-c-ne0.branch [
-      | then-c-ne0 w ↦ subst at (sym w.sum-is) (summed-row i (rw w.row_start.ensures at w.add_multiple-sum.ensures))
+      | then-c-ne0 w ↦ subst at (sym w.sum-is) (summed-row i w.add_multiple-sum.ensures)
       | else-c-ne0 w ↦ subst at (sym w.sum-is) (summed-none i w.if-c-ne0.false)
     ]
 
