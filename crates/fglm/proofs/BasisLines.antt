@@ -24,7 +24,8 @@ use Rattle.groebner.proofs.RisingLists.{rising-once}
 use Rattle.lines.specs.declared.StoredBasis.{StoredBasis}
 use Rattle.staircase.specs.StoredLines as read
 use Rattle.staircase.specs.Listed.{listed, ListsIrreducibles}
-use Rattle.multiplication.specs.Rows.{AllBelow, cell_of, Tables}
+use Rattle.multiplication.specs.Rows.{AllBelow, cell_of}
+use Rattle.multiplication.specs.declared.rows.Tables.{Tables}
 use Rattle.fglm.specs.Found.{found_lines, found_standard, Printable}
 use Rattle.fglm.specs.Enumerable.{Enumerable, EnumerationInput, Enumerated}
 use Rattle.fglm.specs.declared.lex_basis.LexBasis.{LexBasis}

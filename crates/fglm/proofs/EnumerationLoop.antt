@@ -40,7 +40,7 @@ use Rattle.staircase.specs.Listed.{listed}
 use Rattle.staircase.proofs.PaddedRows.{held-row, padded, one-held}
 use Rattle.coordinates.specs.Vectors.{Below, FullLength, FirstPlace}
 use Rattle.coordinates.specs.declared.Coordinates.{Coordinates}
-use Rattle.multiplication.specs.Rows.{Tables}
+use Rattle.multiplication.specs.declared.rows.Tables.{Tables}
 use Rattle.fglm.specs.RowState.{SoundRows}
 use Rattle.fglm.specs.Elimination.{LeftOf}
 use Rattle.fglm.specs.Steps.{Dependence, Scaled, Inserted}

@@ -35,7 +35,8 @@ use Rattle.coordinates.specs.Vectors.{coordinate, indicator, coordinates_of, Ful
 use Rattle.coordinates.specs.declared.Coordinates.{Coordinates}
 use Rattle.coordinates.proofs.UnitRows.{indicator-same, indicator-other}
 use Rattle.coordinates.proofs.VectorEntries.{vector-entry}
-use Rattle.multiplication.specs.Rows.{cell_of, Tables}
+use Rattle.multiplication.specs.Rows.{cell_of}
+use Rattle.multiplication.specs.declared.rows.Tables.{Tables}
 use Rattle.fglm.specs.ImageRows.{image_at, OneRow, ImageRule, ImageRow}
 use Rattle.fglm.specs.ImageRows.OneRow.{one_at, no_one}
 use Rattle.fglm.specs.ImageRows.ImageRule.{of_one, of_product}

@@ -17,7 +17,8 @@ use Rattle.staircase.specs.Listed.{listed, listed_at, Place}
 use Rattle.staircase.proofs.ArrayRows.{rows-length}
 use Rattle.coordinates.specs.declared.Coordinates.{Coordinates}
 use Rattle.coordinates.proofs.UnitRows.{indicator-other, indicator-below}
-use Rattle.multiplication.specs.Rows.{Multiplied, Tables}
+use Rattle.multiplication.specs.Rows.{Multiplied}
+use Rattle.multiplication.specs.declared.rows.Tables.{Tables}
 use Rattle.fglm.specs.ImageRows.{image_at, OneRow, DivisorsFound, ImageRow}
 use Rattle.fglm.specs.ImageRows.OneRow.{one_at, no_one}
 use Rattle.fglm.specs.ImageRows.ImageRule.{of_one, of_product}

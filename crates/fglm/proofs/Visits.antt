@@ -69,7 +69,7 @@ use Rattle.staircase.specs.Listed.{listed, listed_at}
 use Rattle.coordinates.specs.Vectors.{FullLength}
 use Rattle.coordinates.specs.Vectors as vectors
 use Rattle.coordinates.specs.declared.Coordinates.{Coordinates}
-use Rattle.multiplication.specs.Rows.{Tables}
+use Rattle.multiplication.specs.declared.rows.Tables.{Tables}
 use Rattle.fglm.specs.RowState.{state_of}
 use Rattle.fglm.specs.ImageRows.{no_image, image_at, DivisorsFound, ImageRow}
 use Rattle.fglm.specs.WrittenLines.{WrittenLine}

@@ -15,7 +15,6 @@ use Rattle.staircase.specs.Listed.{listed}
 use Rattle.staircase.proofs.ArrayRows.{rows-length}
 use Rattle.coordinates.specs.Vectors.{FullLength, FirstPlace}
 use Rattle.coordinates.specs.declared.Coordinates.{Coordinates}
-use Rattle.multiplication.specs.Rows.{tables_of}
 use Rattle.fglm.specs.ImageRows.{ImageRow}
 use Rattle.fglm.specs.declared.elimination.Rows.{Rows}
 use Rattle.fglm.proofs.Adding.{row_scaled}
@@ -30,7 +29,7 @@ size c = rows-length _ c.args.irreducibles.now
 -- The state at the loop's head.
 abbrev State : At-loop-m → Option Monomial → Type 0
 State c m = let a = c.args in let x = c.loop-m in
-    Enumerating a.reciprocals a.n (take a.n a.ranking.variables) a.irreducibles.now (tables_of a.cells.now)
+    Enumerating a.reciprocals a.n (take a.n a.ranking.variables) a.irreducibles.now a.tables.now
     x.rows x.images.items x.ranks.items x.lex.lines.items x.lex.standard.items x.leads.items m
 
 -- The monomial to visit.
@@ -40,7 +39,7 @@ head c = subst (State (goal.at.In-Some c).At-loop-m) c.in-Some.is c.loop-m.invar
 -- What holds after the visit.
 abbrev Visited : In-Some → Rows → List Coordinates → (ranks : List ℕ) → List (ArrayVec LineTerm) → (standard leads : List Monomial) → Type 0
 Visited c rows images ranks lines standard leads = let a = c.args in let x = c.loop-m in
-    VisitedOnce a.reciprocals a.n (take a.n a.ranking.variables) a.irreducibles.now (tables_of a.cells.now)
+    VisitedOnce a.reciprocals a.n (take a.n a.ranking.variables) a.irreducibles.now a.tables.now
     (length x.leads.items + length x.lex.standard.items) rows images ranks lines standard leads c.in-Some.v
 
 whole : (c : After-image_of-w) → FullLength c.image_of-w.result
@@ -48,7 +47,7 @@ whole c = search (c.image_of-w.type_inv, length-mapped, rules)
 
 -- Its entries come from the monomials before.
 image : (c : After-image_of-w) → let a = c.args in
-    ImageRow a.reciprocals.field.p a.n c.in-Some.v c.loop-m.images.items c.loop-m.lex.standard.items (tables_of a.cells.now) a.irreducibles.now c.image_of-w.result
+    ImageRow a.reciprocals.field.p a.n c.in-Some.v c.loop-m.images.items c.loop-m.lex.standard.items a.tables.now a.irreducibles.now c.image_of-w.result
 image c = rw (c.deref.ensures.0, c.deref-in-Some-2.ensures.0) at c.image_of-w.ensures
 
 -- The vector has a pivot.
@@ -90,16 +89,14 @@ standard c =
 pub loop-m-init : goal.loop-m-init
 loop-m-init c =
     let rows = c.none-rows in
-    let (_, input) = c.requires in
     rw (c.new-images.ensures, c.new-ranks.ensures, c.default-lex.ensures.0, c.default-lex.ensures.1, c.new-leads.ensures)
-    (loop.enumerating-start input (size (goal.at.loop-m-init c).Start) rows.ensures
+    (loop.enumerating-start c.requires (size (goal.at.loop-m-init c).Start) rows.ensures
     (search (rows.type_inv, length-mapped, rules)) c.one.ensures)
 
 pub image_of-w-requires : goal.image_of-w-requires
-image_of-w-requires c = let e = head (goal.at.image_of-w-requires c).In-Some in let (cells, _) = c.requires in rw (c.deref.ensures.0, c.deref-in-Some.ensures.0, c.deref-in-Some-2.ensures.0) (record {
+image_of-w-requires c = let e = head (goal.at.image_of-w-requires c).In-Some in rw (c.deref.ensures.0, c.deref-in-Some.ensures.0, c.deref-in-Some-2.ensures.0) (record {
   few = e.given.few;
-  cells_size = cells;
-  cells_below = e.given.below;
+  below = e.given.below;
   standard_few = loop.standard-fits e;
   images_size = e.kept.images_size;
   images_below = e.kept.images_below;

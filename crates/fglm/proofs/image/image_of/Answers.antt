@@ -67,7 +67,7 @@ pub times_variable-requires : goal.times_variable-requires
 times_variable-requires c =
     let g = c.requires in
     let at = goal.at.times_variable-requires c in (
-      record { size = g.cells_size; below = g.cells_below },
+      g.below,
       omega (arith, first at.In-Some),
       g.few,
       each_at (Below c.args.field.p) c.args.images.now g.images_below (element-in no_image c.args.images.now _ (imaged at.After-unwrap-s)),
