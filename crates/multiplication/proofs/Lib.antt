@@ -11,6 +11,7 @@
 --   RowRules       the three rules for the row of x_i·B_s, by the answers of the code
 --   NextProducts   the next products that the code holds
 --   Merging        the merge of the next products
+--   TableRows      the rows of tables
 --   AllRows        the rows below the cursors, filled one after another
 --   FillLoop       the loop of `fill`
 --   TailRows       the loop of `tail_row`

@@ -30,8 +30,9 @@ impl Tables {
     pub fn none() -> Tables
         ensures { NoRows result }
     {
+        let zero = Coordinates::zero();
         Tables {
-            rows: [[Coordinates::zero(); MAX_STANDARD]; MAX_VARIABLES],
+            rows: [[zero; MAX_STANDARD]; MAX_VARIABLES],
         }
     }
 

@@ -1,6 +1,8 @@
 -- `Tables::none` meets its contract.
+use Rattle.monomial.specs.Sizes.{most_variables}
+use Rattle.lines.specs.Sizes.{most_standard}
 use Rattle.multiplication.proofs.TableRows.{no-rows}
 use Rattle.multiplication.proofs.rows.Tables.none.Goals as goal
 
 pub returns : goal.returns
-returns c = no-rows 4 32 c.zero.result c.zero.ensures
+returns c = no-rows most_variables most_standard c.zero.result c.zero.ensures
