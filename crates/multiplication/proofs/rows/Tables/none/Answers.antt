@@ -5,4 +5,4 @@ use Rattle.multiplication.proofs.TableRows.{no-rows}
 use Rattle.multiplication.proofs.rows.Tables.none.Goals as goal
 
 pub returns : goal.returns
-returns c = no-rows most_variables most_standard c.zero.result c.zero.ensures
+returns c = no-rows most_variables most_standard c.zero-zero.result c.zero-zero.ensures
