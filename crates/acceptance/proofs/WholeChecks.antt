@@ -58,8 +58,8 @@ use Rattle.staircase.proofs.PowersOfVariables.{power-of-leads}
 use Rattle.staircase.proofs.SoundLines.{sound-lines}
 use Rattle.staircase.proofs.FailingPairs.{failing-buchberger}
 use Rattle.staircase.proofs.IrreducibleLists.{multiple-leads}
+use Rattle.multiplication.specs.declared.rows.Tables.{Tables}
 use Rattle.multiplication.specs.Criterion.{Acceptance}
-use Rattle.multiplication.specs.Rows.{most_cells, tables_of}
 use Rattle.division.specs.PairRemainders.{Pairable, FirstFailing}
 use Rattle.division.proofs.LowPairs.{low-pairs}
 use Rattle.acceptance.specs.Answers.{WholeVerdict, LeadsPass, Convertible, WholeSays}
@@ -74,8 +74,8 @@ module _ (b : StoredBasis) where
   abbrev pub Refuses : Refused → Type 0
   Refuses e = WholeVerdict {T = ArrayVec Monomial} b (Err e)
 
-  pub says-refused : (e : Refused) (cells : List ℕ) → length cells ≡ most_cells → Refuses e → WholeSays b (Err e) cells
-  says-refused e cells size o = record { size = size; verdict = o; convertible = λ l q. let z : ◌≡◌ {A = ℕ} 0 1 = cc in absurd (omega arith) }
+  pub says-refused : (e : Refused) (t : Tables) → Refuses e → WholeSays b (Err e) t
+  says-refused e t o = record { verdict = o; convertible = λ l q. let z : ◌≡◌ {A = ℕ} 0 1 = cc in absurd (omega arith) }
 
   pub whole-divided : (k : ℕ) → FirstDivided b (Some k) → Refuses (record { refusal = NotReduced; line = k })
   whole-divided k first h = inl (k, (first h).0, (first h).1, refl)
@@ -131,7 +131,7 @@ module _ (b : StoredBasis) where
     abbrev lines : (h : 1 < b.p) → Lines (modulo b.p h) (Grevlex b.n) (stored_lines b h)
     lines h = sound-lines b sound h
 
-    module _ (a : Bool) (cells : List ℕ) (acceptance : Acceptance b l a (tables_of cells)) where
+    module _ (a : Bool) (t : Tables) (acceptance : Acceptance b l a t) where
       -- 15 speaks of no line exactly if the answer of `is_groebner` is yes.
       accepted : (h : 1 < b.p) → ((k : ℕ) → ¬ Failing (modulo b.p h) (monomials b.n) (stored_lines b h) (Grevlex b.n) k) ↔ (a ≡ true)
       accepted h = Iff.trans (failing-buchberger (ground b.p (prime h) b.n) (grevlex-order b.n) (stored_lines b h) (λ g q. ((lines h).falling g q).0)) (Iff.symm (acceptance.buchberger h))
@@ -145,11 +145,10 @@ module _ (b : StoredBasis) where
       passing : a ≡ true → (h : 1 < b.p) → Passing b.p (prime h) b.n (stored_lines b h)
       passing e h = record { undivided = (pass h).0; dimension = λ z. z (pass h).1; unfailing = (accepted h).1 e }
 
-      pub whole-passes : length cells ≡ most_cells → a ≡ true → WholeSays b (Ok (record { items = l })) cells
-      whole-passes size e = record {
-        size = size;
+      pub whole-passes : a ≡ true → WholeSays b (Ok (record { items = l })) t
+      whole-passes e = record {
         verdict = λ h. let w = passing e h in inr (w.undivided, inr (w.dimension, inr (not-large h, inr (w.unfailing, refl))));
-        convertible = λ k q. let same : l ≡ k.items = cc in subst (λ k. Convertible b k (tables_of cells)) same (record {
+        convertible = λ k q. let same : l ≡ k.items = cc in subst (λ k. Convertible b k t) same (record {
           reduced = λ h. ((passing-iff b.p (prime h) b.n (stored_lines b h) (lines h)).0 (passing e h)).0;
           irreducibles = irreducible;
           below = acceptance.below;

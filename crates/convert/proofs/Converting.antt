@@ -28,7 +28,7 @@ use Rattle.groebner.proofs.Clear.{clear-iff}
 use Rattle.groebner.proofs.Next.{variables-ranking}
 use Rattle.lines.specs.declared.StoredBasis.{StoredBasis}
 use Rattle.staircase.specs.StoredLines as read
-use Rattle.multiplication.specs.Rows.{Tables, tables_of}
+use Rattle.multiplication.specs.declared.rows.Tables.{Tables}
 use Rattle.fglm.specs.Found.{found_lines, found_standard, Printable}
 use Rattle.fglm.specs.Enumerable.{Enumerated}
 use Rattle.fglm.specs.Enumerable as fglm
@@ -39,12 +39,9 @@ use Rattle.convert.specs.Outcome.{Converts}
 use Rattle.convert.specs.Finished.{PassedBasis, FinishedBasis}
 use Rattle.convert.proofs.Conversions.{outcome-converts}
 
-module _ (b : StoredBasis) (l : List Monomial) (cells : List ℕ) (basis : PassedBasis l cells b) (reciprocals : Reciprocals)
+module _ (b : StoredBasis) (l : List Monomial) (t : Tables) (basis : PassedBasis l t b) (reciprocals : Reciprocals)
     (same : reciprocals.field.p ≡ b.p) (s : List ℕ) (identity : s ≡ variables b.n) where
   open basis use {modulus, variables as sizes, convertible as given}
-
-  abbrev t : Tables
-  t = tables_of cells
 
   reduced : (h : 1 < b.p) → Reduced (modulo b.p h) (monomials b.n) (Grevlex b.n) (read.stored_lines b h)
   reduced = given.reduced

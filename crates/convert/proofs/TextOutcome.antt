@@ -25,6 +25,7 @@ use Rattle.checks.specs.Answers.{basis_of}
 use Rattle.checks.proofs.Passes.{good-text-iff}
 use Rattle.staircase.specs.TermLines.{lines_of}
 use Rattle.staircase.specs.StoredLines.{stored_lines}
+use Rattle.multiplication.specs.declared.rows.Tables.{Tables}
 use Rattle.acceptance.specs.Answers.{WholeSays, TextSays, lines_refused, lines_passed}
 use Rattle.acceptance.proofs.LaterChecks.{whole-refused, whole-later}
 use Rattle.convert.specs.Outcome.{Outcome}
@@ -34,25 +35,25 @@ use Rattle.convert.proofs.ConvertedChecks.{Output}
 use Rattle.convert.proofs.LastCheck.{finished-outcome}
 use Rattle.convert.proofs.Meets.{meets-of}
 
-module _ (input : Bytes) (b : StoredBasis) (cells : List ℕ) where
+module _ (input : Bytes) (b : StoredBasis) (t : Tables) where
   -- The answer to checks 2 to 15.
   abbrev pub Says : Result (ArrayVec Monomial) Refused → Type 0
-  Says r = TextSays input r b cells
+  Says r = TextSays input r b t
 
   module _ (l : ArrayVec Monomial) (says : Says (Ok l)) where
-    pub says-passed : Checked input (passed (basis_of b)) × WholeSays b (Ok l) cells
+    pub says-passed : Checked input (passed (basis_of b)) × WholeSays b (Ok l) t
     says-passed = passes says
       where
-        passes : Says (Ok l) → Checked input (passed (basis_of b)) × WholeSays b (Ok l) cells
+        passes : Says (Ok l) → Checked input (passed (basis_of b)) × WholeSays b (Ok l) t
         passes (lines_refused q c) = let z : ◌≡◌ {A = ℕ} 0 1 = cc in absurd (omega arith)
         passes (lines_passed c w) = (c, w)
 
-    pub passed-basis : PassedBasis l.items cells b
+    pub passed-basis : PassedBasis l.items t b
     unfolding basis_of
     passed-basis =
         let (checked, whole) = says-passed in
         let w = (good-text-iff input (basis_of b)).0 checked in
-        record { modulus = w.modulus; variables = w.variables; size = whole.size; convertible = whole.convertible l refl }
+        record { modulus = w.modulus; variables = w.variables; convertible = whole.convertible l refl }
 
   module _ (was : Bytes) (short : ¬ (most_bytes < length input)) where
     -- What comes after check 15.

@@ -6,7 +6,6 @@ use Rattle.std.proofs.lemmas.Result.{err_from_is_err_and}
 use Rattle.staircase.specs.Listed.{ListsIrreducibles}
 use Rattle.staircase.proofs.SoundLines.{sound-lines}
 use Rattle.staircase.proofs.IrreducibleLists.{sorted-irreducibles}
-use Rattle.multiplication.proofs.AllRows.{no-rows-length}
 use Rattle.acceptance.proofs.WholeChecks.{says-refused, whole-large, lines_clear, whole-failing, failing, whole-passes}
 use Rattle.acceptance.proofs.check_irreducibles.Goals.{After-by_grevlex-s, In_ok-l}
 use Rattle.acceptance.proofs.check_irreducibles.Goals as goal
@@ -26,9 +25,9 @@ returns-in_err-l c =
     let e = err_from_is_err_and c.from_residual.result c.from_residual.ensures.1 in
     let many : c.list_irreducibles.result ≡ None = grind arith in
     let same : c.in_err-l.field-0.0 ≡ c.at.result = grind arith in
-    let (none, b) = c.requires in
+    let b = c.requires.1 in
     let counted = rw many at c.list_irreducibles.ensures in
-    rw (e.1, e.2, same, c.at.ensures) (says-refused _ _ _ (no-rows-length none) (whole-large _ _ b.leading b.pass counted.0))
+    rw (e.1, e.2, same, c.at.ensures) (says-refused _ _ _ (whole-large _ _ b.leading b.pass counted.0))
 
 pub is_groebner-requires : goal.is_groebner-requires
 is_groebner-requires c =
@@ -46,7 +45,7 @@ is_groebner-requires c =
 pub failing_line-line-requires : goal.failing_line-line-requires
 failing_line-line-requires c =
     let b = c.requires.1 in
-    let (size, accepted) = rw c.deref-2.ensures.0 at c.is_groebner.ensures in
+    let accepted = rw c.deref-2.ensures.0 at c.is_groebner.ensures in
     failing _ b.sound b.pass _ (irreducible (goal.at.failing_line-line-requires c).After-by_grevlex-s) _ _ accepted c.if-not-is_groebner.true
 
 pub returns-then-not-is_groebner : goal.returns-then-not-is_groebner
@@ -54,10 +53,10 @@ returns-then-not-is_groebner c =
     let b = c.requires.1 in
     let l = irreducible (goal.at.returns-then-not-is_groebner c).After-by_grevlex-s in
     rw c.at-then-not-is_groebner.ensures
-    (says-refused _ _ _ c.is_groebner.ensures.0 (whole-failing _ b.sound b.pass _ l _ c.failing_line-line.ensures))
+    (says-refused _ _ _ (whole-failing _ b.sound b.pass _ l _ c.failing_line-line.ensures))
 
 pub returns : goal.returns
 returns c =
     let b = c.requires.1 in
-    let (size, accepted) = rw c.deref-2.ensures.0 at c.is_groebner.ensures in
-    whole-passes _ b.sound b.pass _ (irreducible (goal.at.returns c).After-by_grevlex-s) _ _ accepted size c.if-not-is_groebner.false
+    let accepted = rw c.deref-2.ensures.0 at c.is_groebner.ensures in
+    whole-passes _ b.sound b.pass _ (irreducible (goal.at.returns c).After-by_grevlex-s) _ _ accepted c.if-not-is_groebner.false
