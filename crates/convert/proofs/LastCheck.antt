@@ -2,7 +2,7 @@
 --   finished-enough    the room is long enough: the output is written from the first byte on
 --   finished-outcome   the outcome of check 16, which the answer and the bytes are
 use Prim.Native.Nat.{ℕ, ◌<◌}
-use Rattle.std.specs.Prelude.{Result, Ok, Err}
+use Rattle.std.specs.Prelude.{Result, Ok}
 use mathlib.Core.Path.{◌≡◌, refl, ap, ◌∙◌}
 use mathlib.Core.List.{◌++◌}
 use mathlib.Core.Logic.{inl, inr, by_cases}
@@ -15,7 +15,6 @@ use Rattle.lists.specs.Lists.{Bytes}
 use Rattle.answer.specs.Outcomes.{Judged, refused, passed}
 use Rattle.answer.specs.Answers.{pair, returned, after}
 use Rattle.answer.specs.Finished.{Finished}
-use Rattle.answer.specs.declared.Refusal.TheVariants.{OutputTooShort}
 use Rattle.answer.specs.declared.Refused.{Refused}
 use Rattle.convert.specs.Outcome.{Fits}
 

@@ -5,13 +5,10 @@ use lib.ListN.{length}
 use Rattle.tabtext.specs.Printed.{generator_line}
 use Rattle.tabtext.proofs.Separators.{StandsAt}
 use Rattle.convert.specs.LexText.{generator_lines}
-use Rattle.convert.proofs.LineSequence.{printing-lines-start, printing-lines-room, printing-lines-turn, printing-lines-end}
+use Rattle.convert.proofs.LineSequence.{printing-lines-room, printing-lines-turn, printing-lines-end}
 use Rattle.convert.proofs.LinePlaces.{poly_lines-length, line-stands}
 use Rattle.convert.proofs.print.print_lines.Goals.{After-deref}
 use Rattle.convert.proofs.print.print_lines.Goals as goal
-
-pub loop-g-init : goal.loop-g-init
-loop-g-init g c = printing-lines-start g.met.S.Sink.laws c.requires
 
 -- The line that is read.
 stands : (g : _) (c : After-deref g) → StandsAt (generator_lines c.args.n c.args.lex.now) c.loop-g.g-index (generator_line c.args.n c.deref.result.now)
