@@ -11,7 +11,7 @@ same c = ap (λ f. f.p) c.new-reciprocals.ensures ∙ c.new.ensures
 pub enumerate-lex-requires : goal.enumerate-lex-requires
 enumerate-lex-requires c =
     let given = c.requires in
-    (given.size, enumerates _ _ _ given _ (same (goal.at.enumerate-lex-requires c).After-new-reciprocals) _ (c.x1_to_xn.ensures _ given.variables.most))
+    enumerates _ _ _ given _ (same (goal.at.enumerate-lex-requires c).After-new-reciprocals) _ (c.x1_to_xn.ensures _ given.variables.most)
 
 pub returns : goal.returns
 returns c =
