@@ -40,7 +40,6 @@ pub record BasisLine (s : Bytes) (h : Header) (i : ℕ) : Type 0 where
   pub word : take (h.order.end - h.order.start) (drop h.order.start s) ≡ order
   pub begins : h.order.start ≤ h.order.end
   pub ends : h.order.end ≤ length s
-  pub inside : i ≤ length s
 
 -- The order word and its places.
 record Word (l : TextLine) (h : Header) : Type 0 where
@@ -83,7 +82,6 @@ basis-of-found s r i {h} f e =
       word = ap₂ (λ x y. take x (drop y s)) long w.start ∙ stands.0;
       begins = omega (arith, w.start, w.end);
       ends = omega (arith, w.end, stands.1);
-      inside = f.inside;
     }
 
 pub no-basis-line : (s : Bytes) → read_line 0 s ≡ bad → Checked s (outcomes.refused 2 1)

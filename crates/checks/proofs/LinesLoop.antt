@@ -1,9 +1,9 @@
 -- The loop of `read_lines`, over plain lists.
---   LinesInv              what holds at the loop's head: the lines that are left decide
---   start, turn           it holds where the loop begins, and again after a poly line that passes
---   lines-room            a poly line that passes has room
---   stop                  the end line passes, and so do all lines
---   stop-refused          a line is refused, and so are the lines
+--   LinesInv       what holds at the loop's head: the lines that are left decide
+--   start, turn    it holds where the loop begins, and again after a poly line that passes
+--   lines-room     a poly line that passes has room
+--   stop           the end line passes, and so do all lines
+--   stop-refused   a line is refused, and so are the lines
 use Prim.Native.Nat.{ℕ, suc, ◌≤◌, ◌<◌}
 use mathlib.Core.Path.{◌≡◌}
 use mathlib.Core.List.{List, [], ◌∷◌, ◌++◌, map-append}

@@ -22,7 +22,7 @@
 --   Writing         bytes put into a sink, part by part
 --   Separators      fields with a separator between, as fields with a separator before each later one
 --   FieldPrinting   loops that print fields
---   Values          what stands at each place of the rows and terms of values
+--   Values          what stands at each place of the row of a monomial
 --   Widths          the number of bytes, and bounds on it
 pub mod Steps
 pub mod Places
