@@ -19,7 +19,6 @@ use mathlib.Core.Logic.{inl, inr, ◌↔◌}
 use mathlib.Core.Option.{none}
 use Prim.Native.Nat.{ℕ, ◌<◌}
 use native.Mathlib.Omega.{arith}
-use lib.ListN.{length}
 use Rattle.std.specs.Prelude.{Some, None, Ok, Err}
 use Rattle.arrayvec.specs.ArrayVec.{ArrayVec}
 use Rattle.lists.proofs.EachElement.{each_of, each_at}

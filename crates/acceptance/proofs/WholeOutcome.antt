@@ -15,8 +15,7 @@ use Rattle.monomial.specs.Rows.{Row}
 use Rattle.monomial.specs.Ordering.{monomials, Grevlex}
 use Rattle.monomial.proofs.Products.{rows-laws}
 use Rattle.monomial.proofs.GrevlexOrder.{grevlex-order}
-use Rattle.answer.specs.Outcomes.{Judged, refused, passed, refuse◌at_smallest◌else◌, refuse◌at_0_if◌else◌}
-use Rattle.answer.proofs.Outcomes.{passed-not-refused}
+use Rattle.answer.specs.Outcomes.{Judged, refused, refuse◌at_smallest◌else◌, refuse◌at_0_if◌else◌}
 use Rattle.groebner.specs.Lines.{Line, Lines, Reducible}
 use Rattle.groebner.specs.Bases.{Reduced}
 use Rattle.groebner.specs.Standard.{ZeroDimensional, Finite}

@@ -1,7 +1,7 @@
 -- Inner contracts. The conversion of a basis that passed checks 2 to 15, and check 16 (document 01, refusal 16).
 --   PassedBasis l t b         b passed checks 2 to 15, and has the irreducible monomials l and the multiplication rows t
 --   FinishedBasis b was left r    what the output bytes `was` and the answer come to
-use Rattle.std.specs.Prelude.{ℕ, ◌<◌, ◌≡◌, List, length, Result}
+use Rattle.std.specs.Prelude.{ℕ, ◌<◌, List, Result}
 use Rattle.lists.specs.Lists.{Bytes}
 use Rattle.residue.specs.Prime.{Modulus}
 use Rattle.residue.specs.Field.{ZMod}

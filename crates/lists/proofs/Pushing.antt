@@ -2,7 +2,7 @@
 --   Pushed P d l k   l has k elements, and each is as P says
 --   pushed-none      before the first turn
 --   pushed-more      after a turn
-use mathlib.Core.Path.{◌≡◌, sym, ◌∙◌, subst}
+use mathlib.Core.Path.{◌≡◌, sym, subst}
 use mathlib.Core.List.{List, [], ◌∷◌, ◌++◌}
 use Prim.Native.Nat.{ℕ, ◌+◌, ◌<◌}
 use native.Mathlib.Omega.{arith}

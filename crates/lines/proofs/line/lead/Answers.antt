@@ -1,5 +1,5 @@
 -- `lead` meets its contract.
-use Rattle.std.proofs.Common.{rules, ◌≡◌}
+use Rattle.std.proofs.Common.{rules}
 use Rattle.monomial.specs.Rows.{one}
 use Rattle.monomial.specs.Represented.{monomial}
 use Rattle.lines.specs.LineTerms.{no_term, monomial_at}
