@@ -6,11 +6,11 @@
 --   stop-refused   a line is refused, and so are the lines
 use Prim.Native.Nat.{ℕ, suc, ◌≤◌, ◌<◌}
 use mathlib.Core.Path.{◌≡◌}
-use mathlib.Core.List.{List, [], ◌∷◌, ◌++◌, map-append}
+use mathlib.Core.List.{List, [], ◌∷◌, ◌++◌}
 use mathlib.Core.Logic.{⊎_elim}
 use mathlib.Core.Option.{none}
 use native.Mathlib.Omega.{arith}
-use lib.ListN.{length, drop, length-map, length-append}
+use lib.ListN.{length, drop, length-append}
 use Rattle.arrayvec.specs.ArrayVec.{ArrayVec}
 use Rattle.lists.specs.Lists.{Bytes, Each}
 use Rattle.lists.proofs.EachElement.{each_last}
@@ -26,6 +26,7 @@ use Rattle.checks.specs.Checks.{check_generator, Remaining, generator_passed}
 use Rattle.checks.specs.Checks as checks
 use Rattle.checks.specs.Answers.{basis_of, Stops, PassedLine, LinesSays}
 use Rattle.checks.proofs.Sequence.{none-not-some}
+use Rattle.checks.proofs.HeldLines.{held-length, lines-pushed}
 use Rattle.std.specs.Prelude.{Ok, Err}
 
 generator-room : (p n k : ℕ) (terms : List Term) → check_generator p n k terms none → k ≤ most_lines
@@ -46,24 +47,16 @@ module _ (p n : ℕ) (text : Bytes) (begin : ℕ) where
     pub lines-room : (i : ℕ) (g : List LineTerm) → PassedLine p n (length ls) text at i g → length ls < most_lines
     lines-room i g h = omega (arith, generator-room p n (suc (length ls)) (terms_in n g) h.passes)
 
-    long : length (terms_of_lines n ls) ≡ length ls
-    unfolding terms_of_lines
-    long = length-map ls (λ g. terms_in n g.items)
-
-    more : (g : ArrayVec LineTerm) → terms_of_lines n (ls ++ (g ∷ [])) ≡ terms_of_lines n ls ++ (terms_in n g.items ∷ [])
-    unfolding terms_of_lines
-    more g = map-append (λ l. terms_in n l.items) ls (g ∷ [])
-
     pub turn : (i : ℕ) (g : ArrayVec LineTerm) → PassedLine p n (length ls) text at i g.items → LinesInv (ls ++ (g ∷ [])) i
     turn i g h = record {
       most = omega (arith, lines-room i g.items h, length-append ls (g ∷ []));
       padded = each_last (λ l. PaddedLine n l.items) ls inv.padded h.padded;
-      rest = λ o q. inv.rest o (generator_passed h.front (rw long h.passes) (rw (more g) at q));
+      rest = λ o q. inv.rest o (generator_passed h.front (rw (held-length n ls) h.passes) (rw (lines-pushed n ls g) at q));
     }
 
     pub stop : Stops p n (length ls) (drop at text) (Ok tt) → LinesSays p n (drop begin text) (Ok tt) (record { items = ls })
     unfolding basis_of generators_in
-    stop h = (inv.rest _ (h (terms_of_lines n ls) long), (inv.most, inv.padded))
+    stop h = (inv.rest _ (h (terms_of_lines n ls) (held-length n ls)), (inv.most, inv.padded))
 
     pub stop-refused : (e : Refused) → Stops p n (length ls) (drop at text) (Err e) → Remaining p n (refused (number e.refusal) e.line) [] (drop begin text)
-    stop-refused e h = inv.rest _ (h (terms_of_lines n ls) long)
+    stop-refused e h = inv.rest _ (h (terms_of_lines n ls) (held-length n ls))
