@@ -30,6 +30,7 @@ pub fn enumerate(
     ensures { Enumerated reciprocals n (take n ranking.variables) irreducibles.now tables.now result }
 {
     let field = reciprocals.field;
+    // Images, ranks and standard monomials stand in lists beside each other: the ranks are sought as numbers, and the lines and the answer take the monomials alone.
     let mut rows = Rows::none();
     let mut images: ArrayVec<Coordinates, MAX_STANDARD> = ArrayVec::new();
     let mut ranks: ArrayVec<u64, MAX_STANDARD> = ArrayVec::new();

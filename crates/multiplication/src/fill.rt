@@ -1,6 +1,5 @@
 // The rows of the products x_i·B_s, filled in rising grevlex order of these products, B the irreducible monomials.
 ghost use Rattle.std.specs.Prelude.{◌≡◌, ℕ, true, ◌↔◌, ◌≤◌, ◌<◌, List, length, get_or};
-ghost use Rattle.residue.specs.Prime.{largest_modulus};
 ghost use Rattle.monomial.specs.Sizes.{most_variables};
 ghost use Rattle.monomial.specs.Rows.{exponent};
 ghost use Rattle.monomial.specs.Represented.{row};
@@ -29,27 +28,27 @@ use staircase::leads::leads_of;
 use staircase::ranks::ranks_of;
 
 // c is subtracted at a place, if there is one.
-fn subtract_at(mut r: Coordinates, c: Residue, at: Option<usize>, p: u16) -> Coordinates
-    requires { Below p r × (c.0 < p) × (p ≤ largest_modulus) × ((k : ℕ) → at ≡ Some k → k < most_standard) }
-    ensures { Subtracted p r c.0 at result }
+fn subtract_at(mut r: Coordinates, c: Residue, at: Option<usize>, field: PrimeField) -> Coordinates
+    requires { Below field.p r × (c.0 < field.p) × ((k : ℕ) → at ≡ Some k → k < most_standard) }
+    ensures { Subtracted field.p r c.0 at result }
 {
     if let Some(k) = at {
         let a = r.c[k];
-        r.c[k] = a.sub(c, p);
+        r.c[k] = a.sub(c, field.p);
     }
     r
 }
 
 // Minus the tail of a line: its terms but the first, from the last on.
-fn tail_row(ranks: &[u64], g: &[LineTerm], n: Variables, p: u16) -> Coordinates
-    requires { SoundLine p n g.now × (length ranks.now ≤ most_standard) × (p ≤ largest_modulus) }
-    ensures { (l : List Monomial) → DistinctRanks n l ranks.now → TailRow p n g.now l result }
+fn tail_row(ranks: &[u64], g: &[LineTerm], n: Variables, field: PrimeField) -> Coordinates
+    requires { SoundLine field.p n g.now × (length ranks.now ≤ most_standard) }
+    ensures { (l : List Monomial) → DistinctRanks n l ranks.now → TailRow field.p n g.now l result }
 {
     let mut r = Coordinates::zero();
     for k in (1..g.len()).rev() {
         let t = g[k];
         let at = rank_place(ranks, rank(t.monomial, n));
-        r = subtract_at(r, t.coefficient, at, p);
+        r = subtract_at(r, t.coefficient, at, field);
     }
     r
 }
@@ -163,6 +162,7 @@ fn put_first_ranks(next: &mut [u64], ranks: &[u64], variables: &[u64], n: Variab
 }
 
 // All rows, in rising order of the products: the next products of the n variables are merged by their ranks.
+// Ranks stand in lists of their own, beside the monomials and the cursors: a rank is sought among numbers side by side, and `next_place` reads those of the next products as a slice.
 pub fn fill(tables: &mut Tables, basis: &StoredBasis, irreducibles: &[Monomial])
     requires { NoRows tables.old × Fillable basis.now irreducibles.now }
     ensures { FilledRows basis.now irreducibles.now tables.new }
@@ -185,7 +185,7 @@ pub fn fill(tables: &mut Tables, basis: &StoredBasis, irreducibles: &[Monomial])
         let row = match rank_place(&lead_ranks, w) {
             Some(k) => {
                 let g = &basis.lines[k];
-                tail_row(&ranks, g, n, basis.p)
+                tail_row(&ranks, g, n, field)
             }
             None => row_for(
                 &*tables,

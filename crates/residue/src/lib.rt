@@ -20,6 +20,8 @@ pub mod word;
 #[derive(Clone, Copy, Default, PartialEq, Eq)]
 pub struct Residue(pub u16);
 
+// The modulus of add, sub and mul is any number of at most 251, prime or not, so that they take the number and no `PrimeField`; that a residue is below it is a
+// clause, since it does not hold the modulus.
 impl Residue {
     pub const ZERO: Residue = Residue(0);
 

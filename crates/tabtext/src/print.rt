@@ -38,7 +38,7 @@ fn exponent_at(m: Monomial, i: usize) -> u32
     requires { i < most_variables }
     ensures { ((n : ℕ) → i < n → result ≡ get_or (exponents_of n m) i 0) × Number result }
 {
-    u32::from(m.e[i].0)
+    u32::from(m.exponent(i).0)
 }
 
 pub fn print_exponents<S: Sink>(sink: &mut S, m: Monomial, n: Variables)

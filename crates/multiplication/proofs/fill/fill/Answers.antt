@@ -87,7 +87,7 @@ tail_row-row-requires c =
     let sound = k.given.sound in
     let at = led (goal.at.tail_row-row-requires c).In-Some-rank_place in
     let read = generator-read c.args.basis.now _ c.deref-in-Some-rank_place.ensures.0 (rw c.deref-in-Some-rank_place.ensures.0 at) c.index-deref-k.is c.deref-in-Some-rank_place-3.ensures.0 in
-    (rw read (sound.lines _ at), rw c.deref-in-Some-rank_place-2.ensures.0 (omega (arith, k.ranked.size, k.given.irreducibles.few)), sound.modulus.size)
+    (rw (read, c.new-field.ensures) (sound.lines _ at), rw c.deref-in-Some-rank_place-2.ensures.0 (omega (arith, k.ranked.size, k.given.irreducibles.few)))
 
 pub row_for-row-requires : goal.row_for-row-requires
 row_for-row-requires c =
@@ -114,7 +114,7 @@ row c =
           let at = fill-line inv next some place s in
           let read = generator-read c.args.basis.now _ w.deref-in-Some-rank_place.ensures.0 (rw w.deref-in-Some-rank_place.ensures.0 at) w.index-deref-k.is w.deref-in-Some-rank_place-3.ensures.0 in
           subst is (sym w.row-is)
-          (fill-led inv next some place s (rw read at ((rw w.deref-in-Some-rank_place-2.ensures.0 at w.tail_row-row.ensures) _ (fill-distinct inv))))
+          (fill-led inv next some place s (rw (read, c.new-field.ensures) at ((rw w.deref-in-Some-rank_place-2.ensures.0 at w.tail_row-row.ensures) _ (fill-distinct inv))))
       | in-None w ↦ subst is (sym w.row-is) (fill-made inv next some place w.in-None.is (rw c.new-field.ensures at w.row_for-row.ensures))
     ]
 

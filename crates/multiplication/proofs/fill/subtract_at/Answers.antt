@@ -8,11 +8,11 @@ use Rattle.multiplication.proofs.TailRows.{subtracted-at, subtracted-nowhere}
 use Rattle.multiplication.proofs.fill.subtract_at.Goals as goal
 
 pub sub-requires : goal.sub-requires
-sub-requires c = let (b, h, m, l) = c.requires in (b.below _, h, m)
+sub-requires c = let (b, h, _) = c.requires in (b.below _, h, c.args.field.prime.size)
 
 pub returns-in-Some : goal.returns-in-Some
 returns-in-Some c =
-    let (b, h, m, l) = c.requires in
+    let (b, _, l) = c.requires in
     let size : length c.args.r.c ≡ most_standard = search (length-mapped, rules) in
     subtracted-at b c.in-Some.is size (l _ c.in-Some.is) c.sub.ensures
 

@@ -7,14 +7,14 @@ use Rattle.multiplication.proofs.fill.tail_row.Goals as goal
 
 pub loop-k-init : goal.loop-k-init
 loop-k-init c =
-    let (line, _, _) = c.requires in
+    let (line, _) = c.requires in
     gathered_none (omega (arith, (line.coefficients 0 line.some).1)) line c.zero-r.ensures
 
 pub subtract_at-r-requires : goal.subtract_at-r-requires
 subtract_at-r-requires c =
     let inv = c.loop-k.invariant in
-    let (_, l, m) = c.requires in
-    (inv.below, gathered-small inv (omega arith) _, m, λ k e. omega (arith, (c.rank_place-at.ensures.some k e).within, l))
+    let (_, l) = c.requires in
+    (inv.below, gathered-small inv (omega arith) _, λ k e. omega (arith, (c.rank_place-at.ensures.some k e).within, l))
 
 pub loop-k-preserved : goal.loop-k-preserved
 loop-k-preserved c =

@@ -3,4 +3,4 @@ use Rattle.multiplication.proofs.TailRows.{Gathered}
 use Rattle.multiplication.proofs.fill.tail_row.Given as goal
 
 abbrev pub invariant-loop-k : goal.invariant-loop-k
-invariant-loop-k l = Gathered l.p l.n l.g l.ranks l.r l.k
+invariant-loop-k l = Gathered l.field.p l.n l.g l.ranks l.r l.k
