@@ -1,9 +1,7 @@
 -- The first place of a vector of the code that is not zero, as the first place of its list of residues.
---   first-nonzero    what a search through the vector finds is that place
 --   first_place o    the place that is told, if any
 --   first-of-place   it is the first place of the list
-use mathlib.Core.Path.{◌≡◌, sym, ◌∙◌, ap}
-use mathlib.Core.Bool.{Bool, true, false, not}
+use mathlib.Core.Path.{sym, ◌∙◌, ap}
 use mathlib.Core.Logic.{by_cases}
 use mathlib.Core.Option.{none, some}
 use mathlib.Core.Option as Math
@@ -11,32 +9,13 @@ use Prim.Native.Nat.{ℕ, ◌<◌}
 use native.Mathlib.Decide.{dec_lt}
 use native.Mathlib.Omega.{arith}
 use lib.ListN.{length}
-use Rattle.std.specs.Prelude.{Option, Some, None, position, eqb}
-use Rattle.std.proofs.lemmas.Bool.Decides.{nat_tests}
-use Rattle.std.proofs.lemmas.List.Quantifiers.{position-Some}
-use Rattle.lists.proofs.Positions.{position-none}
+use Rattle.std.specs.Prelude.{Option, Some, None}
 use Rattle.residue.specs.Field.{modulo, residue}
-use Rattle.residue.specs.declared.Residue.{Residue}
 use Rattle.residue.proofs.Residues.{residue-zero, residue-nonzero}
 use Rattle.groebner.proofs.CoefficientRows.{FirstNonzero}
-use Rattle.coordinates.specs.Vectors.{coordinate, Below, vector, FullLength, FirstPlace}
+use Rattle.coordinates.specs.Vectors.{coordinate, Below, vector, FirstPlace}
 use Rattle.coordinates.specs.declared.Coordinates.{Coordinates}
 use Rattle.coordinates.proofs.VectorEntries.{past_end, vector-entry, length-vector}
-
-abbrev nonzero : Residue → Bool
-nonzero x = not (eqb x.0 0)
-
-zero-of : (k : ℕ) → not (eqb k 0) ≡ false → k ≡ 0
-zero-of k e = grind (arith, nat_tests)
-
-not-zero : (k : ℕ) → not (eqb k 0) ≡ true → ¬ (k ≡ 0)
-not-zero k e q = grind (arith, nat_tests)
-
-pub first-nonzero : (w : Coordinates) → FullLength w → (o : Option ℕ) → o ≡ position nonzero w.c → FirstPlace w o
-first-nonzero w whole (Some k) e =
-    let (within, here, before) = position-Some nonzero w.c k (record { 0 = 0 }) (sym e) in
-    (omega (arith, within, whole), not-zero _ here, λ j l. zero-of _ (before j l))
-first-nonzero w whole None e = λ j. by_cases (dec_lt j (length w.c)) (λ h. zero-of _ (position-none nonzero w.c (record { 0 = 0 }) (sym e) j h)) (λ h. past_end w j (omega arith))
 
 abbrev pub first_place : Option ℕ → Math.Option ℕ
 first_place (Some k) = some k

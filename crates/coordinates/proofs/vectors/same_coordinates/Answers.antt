@@ -4,13 +4,10 @@ use mathlib.Core.Path.{◌≡◌, sym, subst}
 use mathlib.Core.Bool.{Bool, true}
 use mathlib.Core.Logic.{◌↔◌}
 use native.Mathlib.Omega.{arith}
-use Rattle.lists.proofs.Testing.{tested-none, tested-failed, tested-more, tested-whole}
+use Rattle.lists.proofs.Testing.{tested-failed, tested-more}
 use Rattle.coordinates.specs.Vectors.{coordinate}
 use Rattle.coordinates.proofs.vectors.same_coordinates.Goals.{then-a-k, else-a-k}
 use Rattle.coordinates.proofs.vectors.same_coordinates.Goals as goal
-
-pub loop-k-init : goal.loop-k-init
-loop-k-init c = tested-none
 
 pub loop-k-preserved : goal.loop-k-preserved
 loop-k-preserved c =
@@ -20,6 +17,3 @@ loop-k-preserved c =
       | then-a-k w ↦ subst tells (sym w.equal-is) (tested-failed c.loop-k.k (omega arith) (λ e. w.if-a-k.true e))
       | else-a-k w ↦ subst tells (sym w.equal-is) (tested-more c.loop-k.invariant w.if-a-k.false)
     ]
-
-pub returns : goal.returns
-returns c = tested-whole (omega arith) c.loop-k.invariant

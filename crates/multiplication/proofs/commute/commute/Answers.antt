@@ -4,7 +4,7 @@ use mathlib.Core.Bool.{not}
 use borrow.Author.Count.{below_more}
 use mathlib.Core.Logic.Iff
 use native.Mathlib.Omega.{arith}
-use Rattle.lists.proofs.Testing.{tested-failed, tested-all, refuted, confirmed}
+use Rattle.lists.proofs.Testing.{tested-failed, refuted, confirmed}
 use Rattle.multiplication.proofs.CommutingRows.{all-commute}
 use Rattle.multiplication.proofs.commute.commute.Goals as goal
 
@@ -15,6 +15,3 @@ returns-then-not-commute_before c = λ h.
 pub loop-j-preserved : goal.loop-j-preserved
 loop-j-preserved c =
     λ h. below_more _ _ (c.loop-j.invariant h) (confirmed _ (c.commute_before.ensures h) (ap not c.if-not-commute_before.false))
-
-pub returns : goal.returns
-returns c = λ h. Iff.trans (tested-all c.loop-j.j (omega arith) (c.loop-j.invariant h)) (all-commute _ h _ _ _)

@@ -2,7 +2,7 @@
 use mathlib.Core.Path.{ap}
 use mathlib.Core.Bool.{not}
 use borrow.Author.Count.{below_more}
-use Rattle.lists.proofs.Testing.{tested-failed, tested-all, refuted, confirmed}
+use Rattle.lists.proofs.Testing.{tested-failed, refuted, confirmed}
 use Rattle.multiplication.proofs.commute.commute_before.Goals as goal
 
 pub returns-then-not-commute_pair : goal.returns-then-not-commute_pair
@@ -12,6 +12,3 @@ returns-then-not-commute_pair c = λ h.
 pub loop-i-preserved : goal.loop-i-preserved
 loop-i-preserved c =
     λ h. below_more _ _ (c.loop-i.invariant h) (confirmed _ (c.commute_pair.ensures h) (ap not c.if-not-commute_pair.false))
-
-pub returns : goal.returns
-returns c = λ h. tested-all c.loop-i.i c.loop-i-test.false (c.loop-i.invariant h)

@@ -2,7 +2,7 @@
 use mathlib.Core.Path.{ap}
 use mathlib.Core.Bool.{not}
 use borrow.Author.Count.{below_more}
-use Rattle.lists.proofs.Testing.{tested-failed, tested-all, refuted, confirmed}
+use Rattle.lists.proofs.Testing.{tested-failed, refuted, confirmed}
 use Rattle.multiplication.proofs.commute.commute_pair.Goals as goal
 
 pub returns-then-not-commute_at : goal.returns-then-not-commute_at
@@ -12,6 +12,3 @@ returns-then-not-commute_at c = λ h.
 pub loop-s-preserved : goal.loop-s-preserved
 loop-s-preserved c =
     λ h. below_more _ _ (c.loop-s.invariant h) (confirmed _ (c.commute_at.ensures h) (ap not c.if-not-commute_at.false))
-
-pub returns : goal.returns
-returns c = λ h. tested-all c.loop-s.s c.loop-s-test.false (c.loop-s.invariant h)

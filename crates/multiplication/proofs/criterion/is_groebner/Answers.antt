@@ -1,14 +1,8 @@
 -- `is_groebner` meets its contract.
 use borrow.Author.Tests.{eq-eqb}
 use native.Mathlib.Omega.{arith}
-use Rattle.multiplication.proofs.GroebnerTest.{candidate-fillable, acceptance, square-acceptance}
+use Rattle.multiplication.proofs.GroebnerTest.{acceptance, square-acceptance}
 use Rattle.multiplication.proofs.criterion.is_groebner.Goals as goal
-
-pub fill-requires : goal.fill-requires
-fill-requires c = (c.requires.0, candidate-fillable c.requires.1)
-
-pub commute-requires : goal.commute-requires
-commute-requires c = (rw c.new-field.ensures c.fill.ensures.below, c.requires.1.irreducibles.few)
 
 pub returns-then-len-count : goal.returns-then-len-count
 returns-then-len-count c =

@@ -4,7 +4,6 @@ use Prim.Native.Nat.{◌<◌}
 use lib.ListN.{length, get_or, take, replicate}
 use native.Mathlib.Omega.{arith}
 use Rattle.lists.proofs.Storing.{zeros-at}
-use Rattle.std.proofs.lemmas.List.{length-take-le}
 use Rattle.monomial.specs.Sizes.{most_variables}
 use Rattle.monomial.specs.Ranks.{FirstRank, NextRank}
 use Rattle.monomial.proofs.RankPlaces.{variables-bounded}
@@ -21,9 +20,6 @@ use Rattle.multiplication.proofs.fill.fill.Goals as goal
 known : (c : After-put_variable_ranks) → Prepared c.args.basis.now c.args.irreducibles.now c.ranks_of-ranks.result.items c.put_variable_ranks.new.ranks c.ranks_of-lead_ranks.result.items
 known c = prepared c.requires.1 c.ranks_of-ranks.ensures c.put_variable_ranks.ensures (rw (c.deref.ensures.0, c.leads_of-leads.ensures) at c.ranks_of-lead_ranks.ensures)
 
-pub new-field-requires : goal.new-field-requires
-new-field-requires c = c.requires.1.sound.modulus
-
 pub put_first_ranks-requires : goal.put_first_ranks-requires
 put_first_ranks-requires c =
     let ranked = (known (goal.at.put_first_ranks-requires c).After-put_variable_ranks).ranked in
@@ -38,11 +34,6 @@ firsts c =
 
 pub loop-i-init : goal.loop-i-init
 loop-i-init c = fill_start (known (goal.at.loop-i-init c).After-put_variable_ranks) c.requires.0 refl (firsts (goal.at.loop-i-init c).After-put_first_ranks)
-
-pub slice_bounds-next_place-end : goal.slice_bounds-next_place-end
-slice_bounds-next_place-end c =
-    let inv = c.loop-i.invariant in
-    sym (length-take-le _ _ (omega (arith, inv.nexts.size, inv.known.ranked.listing.variables)))
 
 pub next_place-requires : goal.next_place-requires
 next_place-requires c = rw c.count.ensures.value (fill-bounded c.loop-i.invariant)

@@ -12,7 +12,6 @@ use Rattle.staircase.proofs.ArrayRows.{rows-length, rows_at}
 use Rattle.multiplication.proofs.ListPlaces.{list-place, place-some}
 use Rattle.multiplication.specs.Passes.{Detour}
 use Rattle.multiplication.proofs.RankQuotients.{quotient-short, quotient-rank, passes-by, some-passes}
-use Rattle.multiplication.proofs.RowSums.{table-row-below}
 use Rattle.multiplication.proofs.fill.product_row.Goals.{After-rank_place, After-unwrap-at, After-variable_through-j}
 use Rattle.multiplication.proofs.fill.product_row.Goals as goal
 
@@ -55,17 +54,6 @@ variable_through-j-requires c =
     let (_, ranked, of, through) = c.requires in
     (ranked.variables.many, ranked.rising, rw (rows_at c.args.n c.args.irreducibles.now c.args.place) at (some-passes ranked of through))
 
-pub bounds-ranks-place : goal.bounds-ranks-place
-bounds-ranks-place c = let (_, ranked, of, _) = c.requires in omega (arith, ranked.ranks.many, of.inside)
-
-pub offset_bounds-variables-j : goal.offset_bounds-variables-j
-offset_bounds-variables-j c = let (_, ranked, _, _) = c.requires in omega (arith, ranked.listing.variables, c.variable_through-j.ensures.0)
-
-pub bounds-variables-j : goal.bounds-variables-j
-bounds-variables-j c =
-    let (_, ranked, _, _) = c.requires in
-    omega (arith, ranked.variables.many, c.variable_through-j.ensures.0)
-
 pub overflow_sub-ranks : goal.overflow_sub-ranks
 overflow_sub-ranks c = omega (arith, rank-at (goal.at.overflow_sub-ranks c).After-variable_through-j)
 
@@ -74,15 +62,6 @@ offset_bounds-tables-at c = omega (arith, inside (goal.at.offset_bounds-tables-a
 
 pub bounds-tables-at : goal.bounds-tables-at
 bounds-tables-at c = omega (arith, inside (goal.at.bounds-tables-at c).After-unwrap-at)
-
-pub times_variable-requires : goal.times_variable-requires
-times_variable-requires c =
-    let (all, ranked, _, _) = c.requires in (
-      all,
-      omega (arith, c.variable_through-j.ensures.0, ranked.listing.variables),
-      ranked.listing.few,
-      table-row-below all c.args.i c.unwrap-at.result,
-    )
 
 pub returns : goal.returns
 returns c =

@@ -25,9 +25,6 @@ placed : (c : In-Some) → let a = c.args in
     PlaceAt a.n (listed a.n a.irreducibles.now) (product a.n (variable a.n a.i) (listed_at a.n a.irreducibles.now a.place)) c.in-Some.k
 placed c = rw c.in-Some.is at (place (goal.at.In-Some c).After-place_after)
 
-pub overflow_add-place : goal.overflow_add-place
-overflow_add-place c = let (_, ranked, of, _) = c.requires in omega (arith, of.inside, ranked.listing.few)
-
 pub place_after-requires : goal.place_after-requires
 place_after-requires c =
     let (_, ranked, of, _) = c.requires in
@@ -52,12 +49,6 @@ returns-in-Some c =
       below = (c.unit.ensures.represents _ c.args.field.prime.prime.above_one).below;
       made = by_unit c.in-Some.k inside at.found (c.unit.ensures.place (omega (arith, inside, ranked.listing.few)));
     }
-
-pub product_row-requires : goal.product_row-requires
-product_row-requires c =
-    let (cells, ranked, of, through) = c.requires in
-    let out = rw c.in_default.is at (place (goal.at.product_row-requires c).After-place_after) in
-    (cells, ranked, of, through (λ k u. out k (omega (arith, u, rows-length c.args.n c.args.irreducibles.now))))
 
 pub returns : goal.returns
 returns c = record { below = c.product_row.ensures.multiplied.below; made = by_product c.product_row.ensures }

@@ -28,9 +28,6 @@ loop-r-preserved c =
       | else-c-ne0 w ↦ subst at (sym w.sum-is) (summed-none i w.if-c-ne0.false)
     ]
 
-pub cut-requires : goal.cut-requires
-cut-requires c = let (_, _, d, _) = c.requires in d
-
 pub returns : goal.returns
 returns c =
     let e : c.loop-r.r ≡ c.args.count = omega arith in
