@@ -27,7 +27,7 @@ use Rattle.convert.proofs.PrintedValues.{standard-printed, lines-printed}
 abbrev pub output : ℕ → ℕ → LexBasis → Bytes
 output p n b =
     printed (header (bytes "lex") p n)
-    ++ (text (generator_lines n b)
+    ++ (text (generator_lines n b.lines.items)
     ++ (printed (lines.standard_line n b.standard.items) ++ (count_line (bytes "runs") (length b.standard.items) ++ count_line (bytes "end") (length b.lines.items))))
 
 -- The text of a basis line, poly lines, a stairs line, a runs line and an end line.
@@ -45,7 +45,7 @@ text-parts l ls s c k =
 
 pub written-output : (p : ℕ) (h : 1 < p) (n : ℕ) (b : LexBasis) → Printable p n b → written_of p h n b ≡ output p n b
 unfolding written found_lines found_standard generator_lines lines.standard_line read.lines_of terms_of_lines
-written-output p h n b w = same ∙ text-parts (header (bytes "lex") p n) (generator_lines n b) (lines.standard_line n standards) (length standards) (length G)
+written-output p h n b w = same ∙ text-parts (header (bytes "lex") p n) (generator_lines n b.lines.items) (lines.standard_line n standards) (length standards) (length G)
   where
     G : List (ArrayVec LineTerm)
     G = b.lines.items
@@ -60,6 +60,6 @@ written-output p h n b w = same ∙ text-parts (header (bytes "lex") p n) (gener
     number = length-map (terms_of_lines n G) (read.line_of p h n) ∙ length-map G (λ (g : ArrayVec LineTerm). terms_in n g.items)
 
     same : written_of p h n b
-        ≡ text ((header (bytes "lex") p n ∷ generator_lines n b) ++ (lines.standard_line n standards ∷ points (length standards) ∷ end (length G) ∷ []))
+        ≡ text ((header (bytes "lex") p n ∷ generator_lines n b.lines.items) ++ (lines.standard_line n standards ∷ points (length standards) ∷ end (length G) ∷ []))
     same = ap₂ (λ (ls : List TextLine) (s : List (List ℕ) × ℕ × ℕ). text ((header (bytes "lex") p n ∷ ls) ++ (standard s.0 ∷ points s.1 ∷ end s.2 ∷ [])))
         (lines-printed p h n G w.each) (λ i. (standard-printed n standards w.standard i, count i, number i))

@@ -1,5 +1,5 @@
 -- Inner contracts. The text of a lex basis of the code.
---   generator_lines n b   its lines, as lines of the text
+--   generator_lines n ls  lines, as lines of the text
 --   ToPrint p n b         it can be printed, for a number p over 1 and n variables
 --   written_of p h n b    the whole text
 use Rattle.std.specs.Prelude.{ℕ, ◌<◌, List, map}
@@ -12,10 +12,10 @@ use Rattle.fglm.specs.declared.lex_basis.LexBasis.{LexBasis}
 use Rattle.fglm.specs.Found.{found_lines, found_standard, Printable}
 use Rattle.convert.specs.Written.{written}
 
--- The lines of the text.
-unfoldable pub generator_lines : ℕ → LexBasis → List TextLine
+-- Lines, as lines of the text.
+unfoldable pub generator_lines : ℕ → List (ArrayVec LineTerm) → List TextLine
 unfolding generator_line
-generator_lines n b = map (λ (g : ArrayVec LineTerm). generator_line n g.items) b.lines.items
+generator_lines n ls = map (λ (g : ArrayVec LineTerm). generator_line n g.items) ls
 
 -- What the printing of the whole text asks.
 pub record ToPrint (p n : ℕ) (b : LexBasis) : Type 0 where

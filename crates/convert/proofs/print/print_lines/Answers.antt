@@ -1,7 +1,5 @@
 -- `print::print_lines` meets its contract. The loop's invariant: the lines from the place of g on are left.
-use mathlib.Core.Path.{ap}
 use native.Mathlib.Omega.{arith}
-use lib.ListN.{length}
 use Rattle.tabtext.specs.Printed.{generator_line}
 use Rattle.tabtext.proofs.Separators.{StandsAt}
 use Rattle.convert.specs.LexText.{generator_lines}
@@ -11,8 +9,8 @@ use Rattle.convert.proofs.print.print_lines.Goals.{After-deref}
 use Rattle.convert.proofs.print.print_lines.Goals as goal
 
 -- The line that is read.
-stands : (g : _) (c : After-deref g) → StandsAt (generator_lines c.args.n c.args.lex.now) c.loop-g.g-index (generator_line c.args.n c.deref.result.now)
-stands g c = line-stands c.args.n c.args.lex.now c.loop-g.g-index c.deref-g-items.ensures.0 c.loop-g-test.true c.g-item.is c.deref.ensures.0
+stands : (g : _) (c : After-deref g) → StandsAt (generator_lines c.args.n c.args.lines.now) c.loop-g.g-index (generator_line c.args.n c.deref.result.now)
+stands g c = line-stands c.args.n c.args.lines.now c.loop-g.g-index c.loop-g-test.true c.g-item.is c.deref.ensures.0
 
 pub print_generator-requires : goal.print_generator-requires
 print_generator-requires g c = printing-lines-room g.met.S.Sink.laws c.loop-g.invariant _ (stands g (goal.at.print_generator-requires g c).After-deref)
@@ -21,5 +19,4 @@ pub loop-g-preserved : goal.loop-g-preserved
 loop-g-preserved g c = printing-lines-turn g.met.S.Sink.laws c.loop-g.invariant _ (stands g (goal.at.loop-g-preserved g c).After-deref) c.print_generator.ensures.printed
 
 pub returns : goal.returns
-returns g c =
-    printing-lines-end g.met.S.Sink.laws c.loop-g.invariant (omega (arith, poly_lines-length c.args.n c.args.lex.now, ap length c.deref-g-items.ensures.0, c.loop-g-test.false))
+returns g c = printing-lines-end g.met.S.Sink.laws c.loop-g.invariant (omega (arith, poly_lines-length c.args.n c.args.lines.now))

@@ -3,8 +3,10 @@ use Prim.Native.Nat.{ℕ, ◌<◌}
 use mathlib.Core.Path.{◌≡◌, refl, sym, subst}
 use mathlib.Core.List.{List, ◌++◌}
 use lib.ListN.{length}
+use Rattle.arrayvec.specs.ArrayVec.{ArrayVec}
 use Rattle.lists.specs.Lists.{Bytes}
 use Rattle.monomial.specs.declared.Monomial.{Monomial}
+use Rattle.lines.specs.declared.line.LineTerm.{LineTerm}
 use Rattle.tabtext.specs.Text.{bytes, header, text}
 use Rattle.tabtext.specs.Printed.{standard_line, printed, count_line}
 use Rattle.tabtext.proofs.Writing.{Left, left-all, left_less, left-last, left-room}
@@ -18,7 +20,7 @@ abbrev basis-line : (g : _) → Start g → Bytes
 basis-line g s = printed (header (bytes "lex") s.args.p s.args.n)
 
 abbrev poly-lines : (g : _) → Start g → Bytes
-poly-lines g s = text (generator_lines s.args.n s.args.lex.now)
+poly-lines g s = text (generator_lines s.args.n s.args.lex.now.lines.items)
 
 abbrev standard-line : (g : _) → Start g → Bytes
 standard-line g s = printed (standard_line s.args.n s.args.lex.now.standard.items)
@@ -59,24 +61,26 @@ after-header g c =
 pub print_lines-requires : goal.print_lines-requires
 print_lines-requires g c =
     let s = (goal.at.print_lines-requires g c).Start in
-    left-room g.met.S.Sink.laws (poly-lines g s) (standard-line g s ++ (points-line g s ++ end_line g s)) refl (after-header g (goal.at.print_lines-requires g c).After-print_header)
+    let left = after-header g (goal.at.print_lines-requires g c).After-print_header in
+    subst (λ (ls : List (ArrayVec LineTerm)). g.S.Sink.takes c.print_header.new.sink (length (text (generator_lines c.args.n ls)))) (sym c.deref.ensures.0)
+    (left-room g.met.S.Sink.laws (poly-lines g s) (standard-line g s ++ (points-line g s ++ end_line g s)) refl left)
 
 after-lines : (g : _) (c : After-print_lines g) →
     let s = (goal.at.After-print_lines g c).Start in
     Rest g s (standard-line g s ++ (points-line g s ++ end_line g s)) c.print_lines.new.sink
-after-lines g c = left_less g.met.S.Sink.laws _ _ refl (after-header g (goal.at.After-print_lines g c).After-print_header) c.print_lines.ensures
+after-lines g c = left_less g.met.S.Sink.laws _ _ refl (after-header g (goal.at.After-print_lines g c).After-print_header) (rw c.deref.ensures.0 at c.print_lines.ensures)
 
 pub print_standard-requires : goal.print_standard-requires
 print_standard-requires g c =
     let s = (goal.at.print_standard-requires g c).Start in
     let left = after-lines g (goal.at.print_standard-requires g c).After-print_lines in
-    subst (λ (ms : List Monomial). g.S.Sink.takes c.print_lines.new.sink (length (printed (standard_line c.args.n ms)))) (sym c.deref.ensures.0)
+    subst (λ (ms : List Monomial). g.S.Sink.takes c.print_lines.new.sink (length (printed (standard_line c.args.n ms)))) (sym c.deref-2.ensures.0)
     (left-room g.met.S.Sink.laws (standard-line g s) (points-line g s ++ end_line g s) refl left)
 
 after-standard : (g : _) (c : After-print_standard g) →
     let s = (goal.at.After-print_standard g c).Start in
     Rest g s (points-line g s ++ end_line g s) c.print_standard.new.sink
-after-standard g c = left_less g.met.S.Sink.laws _ _ refl (after-lines g (goal.at.After-print_standard g c).After-print_lines) (rw c.deref.ensures.0 at c.print_standard.ensures.printed)
+after-standard g c = left_less g.met.S.Sink.laws _ _ refl (after-lines g (goal.at.After-print_standard g c).After-print_lines) (rw c.deref-2.ensures.0 at c.print_standard.ensures.printed)
 
 pub print_count-requires : goal.print_count-requires
 unfolding bytes
