@@ -53,7 +53,15 @@ fn convert_basis(
     ensures { FinishedBasis basis.now output.old output.new result }
 {
     let reciprocals = Reciprocals::new(PrimeField::new(basis.p));
-    let lex = enumerate(tables, irreducibles, x1_to_xn(), reciprocals, basis.n);
+    let mut lex = LexBasis::default();
+    enumerate(
+        &mut lex,
+        tables,
+        irreducibles,
+        x1_to_xn(),
+        reciprocals,
+        basis.n,
+    );
     finish(&mut *output, &lex, basis.p, basis.n)
 }
 

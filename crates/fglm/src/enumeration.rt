@@ -19,22 +19,25 @@ use staircase::leads::Leads;
 use staircase::next::next;
 
 // Monomials are visited in rising lex order. One that depends on the standard monomials before it makes a line, whose multiples are passed over.
+// The lex basis is left in what is lent: a large value that is handed back is copied.
 pub fn enumerate(
+    lex: &mut LexBasis,
     tables: &Tables,
     irreducibles: &[Monomial],
     ranking: Ranking,
     reciprocals: Reciprocals,
     n: Variables,
-) -> LexBasis
+)
     requires { EnumerationInput reciprocals n (take n ranking.variables) irreducibles.now tables.now }
-    ensures { Enumerated reciprocals n (take n ranking.variables) irreducibles.now tables.now result }
+    ensures { Enumerated reciprocals n (take n ranking.variables) irreducibles.now tables.now lex.new }
 {
+    lex.lines.clear();
+    lex.standard.clear();
     let field = reciprocals.field;
     // Images, ranks and standard monomials stand in lists beside each other: the ranks are sought as numbers, and the lines and the answer take the monomials alone.
     let mut rows = Rows::none();
     let mut images: ArrayVec<Coordinates, MAX_STANDARD> = ArrayVec::new();
     let mut ranks: ArrayVec<u64, MAX_STANDARD> = ArrayVec::new();
-    let mut lex = LexBasis::default();
     let mut leads = Leads::new();
     let mut m = Some(Monomial::one());
     while let Some(v) = m {
@@ -62,5 +65,4 @@ pub fn enumerate(
         lex.standard.push(v);
         m = next(&leads, v, ranking, n);
     }
-    lex
 }

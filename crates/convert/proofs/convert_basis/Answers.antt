@@ -8,12 +8,12 @@ use Rattle.convert.proofs.convert_basis.Goals as goal
 same : (c : After-new-reciprocals) → c.new-reciprocals.result.field.p ≡ c.args.basis.now.p
 same c = ap (λ f. f.p) c.new-reciprocals.ensures ∙ c.new.ensures
 
-pub enumerate-lex-requires : goal.enumerate-lex-requires
-enumerate-lex-requires c =
+pub enumerate-requires : goal.enumerate-requires
+enumerate-requires c =
     let given = c.requires in
-    enumerates _ _ _ given _ (same (goal.at.enumerate-lex-requires c).After-new-reciprocals) _ (c.x1_to_xn.ensures _ given.variables.most)
+    enumerates _ _ _ given _ (same (goal.at.enumerate-requires c).After-new-reciprocals) _ (c.x1_to_xn.ensures _ given.variables.most)
 
 pub returns : goal.returns
 returns c =
     let given = c.requires in
-    finished-basis _ _ _ given _ (same (goal.at.returns c).After-new-reciprocals) _ (c.x1_to_xn.ensures _ given.variables.most) _ c.enumerate-lex.ensures _ _ _ c.finish.ensures
+    finished-basis _ _ _ given _ (same (goal.at.returns c).After-new-reciprocals) _ (c.x1_to_xn.ensures _ given.variables.most) _ c.enumerate.ensures _ _ _ c.finish.ensures

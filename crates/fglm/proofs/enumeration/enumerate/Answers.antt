@@ -89,7 +89,7 @@ standard c =
 pub loop-m-init : goal.loop-m-init
 loop-m-init c =
     let rows = c.none-rows in
-    rw (c.new-images.ensures, c.new-ranks.ensures, c.default-lex.ensures.0, c.default-lex.ensures.1, c.new-leads.ensures)
+    rw (c.new-images.ensures, c.new-ranks.ensures, c.clear.ensures, c.clear-2.ensures, c.new-leads.ensures)
     (loop.enumerating-start c.requires (size (goal.at.loop-m-init c).Start) rows.ensures
     (search (rows.type_inv, length-mapped, rules)) c.one.ensures)
 
