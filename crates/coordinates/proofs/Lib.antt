@@ -2,8 +2,10 @@
 --   UnitRows        vectors that are 1 at one place and 0 elsewhere, by their coefficients
 --   VectorEntries   lists of residues, from the entries of vectors of the code
 --   UnitVectors     vectors that are one at one place, as lists of residues
+--   SameVectors     whether two vectors are the same
 --   FirstPlaces     the first place of a vector that is not zero
 pub mod UnitRows
 pub mod VectorEntries
 pub mod UnitVectors
+pub mod SameVectors
 pub mod FirstPlaces

@@ -15,7 +15,7 @@ pub mod vectors;
 
 // Coefficient k is that of the monomial at place k of a list. That it is below p is a clause of the functions, `Below p`: p is the modulus of the field
 // in use, which a vector does not hold.
-#[derive(Clone, Copy, Default)]
+#[derive(Clone, Copy, Default, PartialEq, Eq)]
 pub struct Coordinates {
     pub c: [Residue; MAX_STANDARD],
 }

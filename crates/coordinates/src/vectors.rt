@@ -54,17 +54,11 @@ pub fn cut(mut r: Coordinates, count: usize) -> Coordinates
     r
 }
 
-// Whether all coefficients are equal. No turn returns, so that the turns are made side by side.
+// Whether all coefficients are equal.
 pub fn same_coordinates(a: Coordinates, other: Coordinates) -> bool
     ensures { (result ≡ true) ↔ ((k : ℕ) → k < most_standard → coordinate a k ≡ coordinate other k) }
 {
-    let mut equal = true;
-    for k in 0..MAX_STANDARD {
-        if a.c[k].0 != other.c[k].0 {
-            equal = false;
-        }
-    }
-    equal
+    a == other
 }
 
 // The first place that is not zero.
