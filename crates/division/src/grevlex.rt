@@ -17,6 +17,7 @@ const MAX_DEGREE: usize = MAX_VARIABLES + (MAX_STANDARD - 1);
 pub const SPACE: usize = (MAX_DEGREE + 1) * (MAX_DEGREE + 2) * (MAX_DEGREE + 3) * (MAX_DEGREE + 4)
     / 24;
 
+// One for each constant, whose value it says; a generic one would still be told which.
 pub fn max_space() -> usize
     ensures { result ≡ space }
 {
