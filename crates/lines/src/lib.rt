@@ -12,7 +12,7 @@ use monomial::count::Variables;
 pub mod line;
 pub mod sizes;
 
-// The modulus, the number of variables, and the lines of a basis.
+// The modulus, the number of variables, and the lines of a basis. A function that works on terms takes p and n apart: residues ask for the one, monomials for the other.
 #[derive(Default, Drop)]
 pub struct StoredBasis {
     pub p: u16,

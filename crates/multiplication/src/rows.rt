@@ -45,7 +45,8 @@ impl Tables {
     }
 }
 
-// The coordinates of x_i times what has the coordinates w: Σ w(r)·row(i, r) over r < d.
+// The coordinates of x_i times what has the coordinates w: Σ w(r)·row(i, r) over r < d. The number d is that of a list which the caller holds and the tables do not,
+// so that it is at most most_standard is asked here and in `commute`.
 pub fn times_variable(
     tables: &Tables,
     i: usize,

@@ -1,4 +1,4 @@
-// Bytes, rows of exponents and terms, read at a place of a text. Each reader gives the place after what it read.
+// Bytes, rows of exponents and terms, read at a place of a text. Each reader gives the place after what it read, and not the rest of the text: a record names its parts by places.
 ghost use Rattle.std.specs.Prelude.{◌≡◌, ℕ, ◌+◌, ◌<◌, ◌≤◌, true, Some, length, drop};
 ghost use Rattle.tabtext.specs.Readers.{starts_with, read_byte, read_field, read_exponent, read_row, read_term, read_terms, read_rows};
 ghost use Rattle.tabtext.specs.Answers.{NumberSays, NextSays, RowSays, TermSays, FieldsSay};
