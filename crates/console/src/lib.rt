@@ -1,7 +1,7 @@
 // What the programs share: the size of an input, the reading of a text, and the printing of an answer.
 #![tactic(auto)]
 
-ghost use Rattle.std.specs.Prelude.{◌≡◌, length};
+ghost use Rattle.std.specs.Prelude.{◌≡◌, suc, length};
 ghost use Rattle.std.specs.Io.{ReadsAtMost};
 ghost use Rattle.lists.specs.Lists.{Bytes};
 ghost use Rattle.answer.specs.Outcomes.{Judged};
@@ -18,6 +18,13 @@ use tabtext::sizes::MAX_BYTES;
 
 // One byte more than an input may have, so that a longer one is told.
 pub const INPUT_BYTES: usize = MAX_BYTES + 1;
+
+// That it is so many.
+pub fn input_bytes() -> usize
+    ensures { result ≡ suc most_bytes }
+{
+    INPUT_BYTES
+}
 
 // Reads until the buffer is full or the input ends: how many bytes stand at the front of the buffer.
 pub fn read_full<R: Read>(reader: &mut R, buffer: &mut [u8]) -> io::Result<usize>
