@@ -17,6 +17,7 @@ fn digit_at(text: &[u8], i: usize) -> Option<u32>
 }
 
 // A digit that is not 0 and at most four more, or 0 alone: its value, and the place after it.
+#[inline]
 pub fn read_number(text: &[u8], at: usize) -> Option<(u32, usize)>
     ensures { NumberSays read_number text.now at result }
 {

@@ -33,6 +33,7 @@ pub fn read_byte(text: &[u8], at: usize, byte: u8) -> Option<usize>
 }
 
 // A separator and a number.
+#[inline]
 pub fn read_field(text: &[u8], at: usize, separator: u8) -> Option<(u32, usize)>
     ensures { NumberSays (read_field separator) text.now at result }
 {
@@ -41,6 +42,7 @@ pub fn read_field(text: &[u8], at: usize, separator: u8) -> Option<(u32, usize)>
 }
 
 // An exponent that stands after j others: the first one alone, a later one after a dot.
+#[inline]
 fn read_exponent(text: &[u8], at: usize, j: usize) -> Option<(u32, usize)>
     ensures { NumberSays (read_exponent j) text.now at result }
 {
