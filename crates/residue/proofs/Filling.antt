@@ -1,17 +1,20 @@
--- The loop of `Reciprocals::new`: the table is filled from the front, two entries a turn, one for each number of a pair.
---   Has t k             the table t has an entry for k: one that is not zero
---   Right p t           each entry is a reciprocal modulo p
---   TableFilled p t a   so it is, with each number its reciprocal has an entry, and the numbers from 1 to a - 1 have entries
---   reciprocals-none    it holds at a = 1 for a table of zeros
---   filled-none-below   a number without an entry has no reciprocal below it
---   reciprocals-more    it holds at a + 1 once the reciprocals of a and of its reciprocal are stored
---   filled-over         it holds at a + 1 if a has an entry
---   filled-stop         if a is p, the table serves for p
-use mathlib.Core.Path.{◌≡◌, sym, ◌∙◌, subst}
+-- The loop of `Reciprocals::new`: the table is filled from the front, four entries a turn, one for each number of a pair and of the pair of their opposites.
+--   Has t k               the table t has an entry for k: one that is not zero
+--   Right p t             each entry is a reciprocal modulo p
+--   TableFilled p t a     so it is, with each number its reciprocal has an entry, and the numbers from 1 to a - 1 have entries
+--   reciprocals-none      it holds at a = 1 for a table of zeros
+--   filled-none-below     a number without an entry has no reciprocal below it
+--   pair-stored           a pair may be stored at any time
+--   reciprocals-more      it holds at a + 1 once the reciprocals of a and of its reciprocal are stored
+--   reciprocal-opposite   the opposite of the reciprocal of a is the reciprocal of the opposite of a
+--   opposites-stored      the pair of the opposites may be stored too
+--   filled-over           it holds at a + 1 if a has an entry
+--   filled-stop           if a is p, the table serves for p
+use mathlib.Core.Path.{◌≡◌, sym, ◌∙◌, subst, ap}
 use mathlib.Core.Logic.{⊎_elim, by_cases, ◌≢◌}
 use mathlib.Core.List.{List}
-use Prim.Native.Nat.{ℕ, ◌+◌, ◌≤◌, ◌<◌}
-use native.Mathlib.Nat.{eq-or-lt_of_le}
+use Prim.Native.Nat.{ℕ, ◌+◌, ◌-◌, ◌*◌, ◌%◌, ◌≤◌, ◌<◌}
+use native.Mathlib.Nat.{eq-or-lt_of_le, mul-add-mod_self_right}
 use native.Mathlib.Decide.{dec_lt, ℕ_discrete}
 use native.Mathlib.Omega.{arith}
 use lib.ListN.{length, get_or, set, replicate, length-set, length-replicate, get_or-replicate, get_or-eq_default}
@@ -79,52 +82,55 @@ module _ (p : ℕ) (t : List ℕ) (i v : ℕ) (l : i < length t) (s : Reciprocal
       (λ e. rw (e, get_or-set_same t i v 0 l) s)
       (λ n. subst (Reciprocal p k) (sym (get_or-set_other t i k v 0 n)) (r k (subst (◌≢ 0) (get_or-set_other t i k v 0 n) h)))
 
-pub reciprocals-more : (p : ℕ) (t : List ℕ) (a b : ℕ) → TableFilled p t a → a < p → Reciprocal p a b → TableFilled p (set (set t a b) b a) (a + 1)
-reciprocals-more p t a b f h s = record {
+-- A pair is stored, the reciprocal of each number at its place.
+module _ (p : ℕ) (t : List ℕ) (i j : ℕ) (m : p ≤ length t) (h : i < p) (s : Reciprocal p i j) where
+  abbrev t' : List ℕ
+  t' = set t i j
+
+  abbrev t'' : List ℕ
+  t'' = set t' j i
+
+  room : i < length t
+  room = omega arith
+
+  room' : j < length t'
+  room' = omega (arith, length-set t i j, s.below)
+
+  pair-keeps : (k : ℕ) → Has t k → Has t'' k
+  pair-keeps k n = stored-keeps p t' j i room' (reciprocal-swap h s) k (stored-keeps p t i j room s k n)
+
+  pair-right : Right p t → Right p t''
+  pair-right r = stored-right p t' j i room' (reciprocal-swap h s) (stored-right p t i j room s r)
+
+  pair_first : Has t'' i
+  pair_first = stored-keeps p t' j i room' (reciprocal-swap h s) i (stored_here p t i j room s)
+
+  pair_second : Has t'' j
+  pair_second = stored_here p t' j i room' (reciprocal-swap h s)
+
+  module _ (right : Right p t) where
+    -- An entry is the reciprocal that is known.
+    pair-entry : (k v : ℕ) → Has t'' k → Reciprocal p k v → Has t'' v → Has t'' (get_or t'' k 0)
+    pair-entry k v n r u = subst (Has t'') (sym (reciprocal-unique p k _ v (pair-right right k n) r)) u
+
+    pair-pairs : ((k : ℕ) → Has t k → Has t (get_or t k 0)) → (k : ℕ) → Has t'' k → Has t'' (get_or t'' k 0)
+    pair-pairs pairs k n = by_cases (ℕ_discrete k j) (λ e. pair-entry k i n (subst (λ l. Reciprocal p l i) (sym e) (reciprocal-swap h s)) pair_first)
+        (λ u. by_cases (ℕ_discrete k i) (λ e. pair-entry k j n (subst (λ l. Reciprocal p l j) (sym e) s) pair_second)
+        (λ v. let o : Has t k = subst (◌≢ 0) (get_or-set_other t' j k i 0 u ∙ get_or-set_other t i k j 0 v) n in pair-entry k _ n (right k o) (pair-keeps _ (pairs k o))))
+
+pub pair-stored : (p : ℕ) (t : List ℕ) (a i j : ℕ) → TableFilled p t a → i < p → Reciprocal p i j → TableFilled p (set (set t i j) j i) a
+pair-stored p t a i j f h s = record {
   modulus = f.modulus;
-  space = size ∙ f.space;
-  above_zero = omega arith;
-  within = omega arith;
-  right = right;
-  pairs = pairs;
-  before = λ k l m. ⊎_elim (λ e. subst (Has t'') (sym e) has-a) (λ u. keeps k (f.before k l u)) (eq-or-lt_of_le (omega arith));
+  space = length-set (set t i j) j i ∙ length-set t i j ∙ f.space;
+  above_zero = f.above_zero;
+  within = f.within;
+  right = pair-right p t i j room h s f.right;
+  pairs = pair-pairs p t i j room h s f.right f.pairs;
+  before = λ k l m. pair-keeps p t i j room h s k (f.before k l m);
 }
   where
-    t' : List ℕ
-    t' = set t a b
-
-    t'' : List ℕ
-    t'' = set t' b a
-
-    size : length t'' ≡ length t
-    size = length-set t' b a ∙ length-set t a b
-
-    room : a < length t
+    room : p ≤ length t
     room = omega (arith, f.space, f.modulus.size)
-
-    room' : b < length t'
-    room' = omega (arith, length-set t a b, f.space, f.modulus.size, s.below)
-
-    right : Right p t''
-    right = stored-right p t' b a room' (reciprocal-swap h s) (stored-right p t a b room s f.right)
-
-    keeps : (k : ℕ) → Has t k → Has t'' k
-    keeps k n = stored-keeps p t' b a room' (reciprocal-swap h s) k (stored-keeps p t a b room s k n)
-
-    has-a : Has t'' a
-    has-a = stored-keeps p t' b a room' (reciprocal-swap h s) a (stored_here p t a b room s)
-
-    has-b : Has t'' b
-    has-b = stored_here p t' b a room' (reciprocal-swap h s)
-
-    -- An entry is the reciprocal that is known.
-    pair : (k v : ℕ) → Has t'' k → Reciprocal p k v → Has t'' v → Has t'' (get_or t'' k 0)
-    pair k v n r m = subst (Has t'') (sym (reciprocal-unique p k _ v (right k n) r)) m
-
-    pairs : (k : ℕ) → Has t'' k → Has t'' (get_or t'' k 0)
-    pairs k n = by_cases (ℕ_discrete k b) (λ e. pair k a n (subst (λ j. Reciprocal p j a) (sym e) (reciprocal-swap h s)) has-a)
-        (λ u. by_cases (ℕ_discrete k a) (λ e. pair k b n (subst (λ j. Reciprocal p j b) (sym e) s) has-b)
-        (λ v. let m : Has t k = subst (◌≢ 0) (get_or-set_other t' b k a 0 u ∙ get_or-set_other t a k b 0 v) n in pair k _ n (f.right k m) (keeps _ (f.pairs k m))))
 
 pub filled-over : (p : ℕ) (t : List ℕ) (a : ℕ) → TableFilled p t a → a < p → get_or t a 0 ≢ 0 → TableFilled p t (a + 1)
 filled-over p t a f h n = record {
@@ -136,6 +142,32 @@ filled-over p t a f h n = record {
   pairs = f.pairs;
   before = λ k l m. ⊎_elim (λ e. subst (Has t) (sym e) n) (λ u. f.before k l u) (eq-or-lt_of_le (omega arith));
 }
+
+pub reciprocals-more : (p : ℕ) (t : List ℕ) (a b : ℕ) → TableFilled p t a → a < p → Reciprocal p a b → TableFilled p (set (set t a b) b a) (a + 1)
+reciprocals-more p t a b f h s =
+    filled-over p _ a (pair-stored p t a a b f h s) h (pair_first p t a b (omega (arith, f.space, f.modulus.size)) h s)
+
+-- (p - a)·(p - b) and a·b differ by multiples of p.
+opposite-product : (p a b : ℕ) → a ≤ p → b ≤ p → (a + b) * p + (p - a) * (p - b) ≡ p * p + a * b
+opposite-product p a b h k =
+    let x : a + (p - a) ≡ p = omega arith in
+    let y : b + (p - b) ≡ p = omega arith in
+    omega (arith, ap (a *◌) y, ap (p *◌) y, ap ((p - b) *◌) x)
+
+pub reciprocal-opposite : (p a b : ℕ) → 0 < a → a < p → Reciprocal p a b → Reciprocal p (p - a) (p - b)
+unfolding product_mod
+reciprocal-opposite p a b h k s = record {
+  below = omega (arith, reciprocal-positive p a b s);
+  inverse =
+      sym (mul-add-mod_self_right (a + b) p ((p - a) * (p - b)))
+      ∙ ap (◌% p) (opposite-product p a b (omega arith) (omega (arith, s.below)))
+      ∙ mul-add-mod_self_right p p (a * b)
+      ∙ s.inverse;
+}
+
+pub opposites-stored : (p : ℕ) (t : List ℕ) (c a b : ℕ) → TableFilled p t c → 0 < a → a < p → Reciprocal p a b →
+    TableFilled p (set (set t (p - a) (p - b)) (p - b) (p - a)) c
+opposites-stored p t c a b f h k s = pair-stored p t c (p - a) (p - b) f (omega arith) (reciprocal-opposite p a b h k s)
 
 pub filled-stop : (p : ℕ) (t : List ℕ) (a : ℕ) → TableFilled p t a → p ≤ a → Serves p t
 filled-stop p t a f h = record {

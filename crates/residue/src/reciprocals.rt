@@ -32,16 +32,19 @@ fn counted(a: Residue, field: PrimeField) -> Residue
 }
 
 impl Reciprocals {
-    // Each reciprocal that is found is stored for both numbers of the pair.
+    // Each reciprocal that is found is stored for both numbers of the pair, and their opposites, which are a pair too, for each other.
     pub fn new(field: PrimeField) -> Reciprocals
         ensures { result.field ≡ field }
     {
+        let p = field.p;
         let mut table = [0u16; LARGEST_MODULUS as usize];
         for a in 1..field.p {
             if table[a as usize] == 0 {
                 let b = counted(Residue(a), field).0;
                 table[a as usize] = b;
                 table[b as usize] = a;
+                table[(p - a) as usize] = p - b;
+                table[(p - b) as usize] = p - a;
             }
         }
         Reciprocals { field, table }
