@@ -2,16 +2,19 @@
 --   no_monomial   a value without exponents, which stands past the end of a list
 --   row-empty     a value without exponents holds the monomial 1
 --   row-one       so does the monomial 1 in all variables
+--   row_at        the monomial of term k of a line, as a row
 --   rows-length   a list of monomials has as many rows
 --   rows_at       the j-th of them
 use mathlib.Core.Path.{◌≡◌, refl, sym, ◌∙◌, ap}
-use mathlib.Core.List.{List, [], map}
+use mathlib.Core.List.{List, [], ◌∷◌, map}
 use Prim.Native.Nat.{ℕ, zero, suc}
 use lib.ListN.{length, get_or, length-map, get_or-map}
 use Rattle.monomial.specs.Sizes.{most_variables}
 use Rattle.monomial.specs.Rows.{one}
 use Rattle.monomial.specs.Represented.{row_of, row, exponent_list, monomial}
 use Rattle.monomial.specs.declared.Monomial.{Monomial}
+use Rattle.lines.specs.LineTerms.{no_term, monomial_at}
+use Rattle.lines.specs.declared.line.LineTerm.{LineTerm}
 use Rattle.staircase.specs.Leads.{rows_of}
 
 -- A value without exponents.
@@ -37,6 +40,15 @@ row-of-one (suc n) (suc k) = λ i. (0, row-of-one n k i)
 pub row-one : (n : ℕ) → row n (monomial most_variables (one most_variables)) ≡ one n
 unfolding row monomial exponent_list one
 row-one n = row-of-one n most_variables
+
+pub row_at : (n : ℕ) (g : List LineTerm) (k : ℕ) → row n (monomial_at g k) ≡ row n (get_or (map (λ (t : LineTerm). t.monomial) g) k no_monomial)
+unfolding monomial_at no_term
+row_at n g k = go g k
+  where
+    go : (g : List LineTerm) (k : ℕ) → row n (monomial_at g k) ≡ row n (get_or (map (λ (t : LineTerm). t.monomial) g) k no_monomial)
+    go [] k = row-one n ∙ sym (row-empty n)
+    go (t ∷ g) zero = refl
+    go (t ∷ g) (suc k) = go g k
 
 module _ (n : ℕ) (ms : List Monomial) where
   pub rows-length : length (rows_of n ms) ≡ length ms

@@ -3,6 +3,7 @@
 --   monomials_of R g         the monomials of a line
 --   DividedAt R 𝓜 G d i      a monomial of the line at place i is divisible by the leading monomial of the line at another place
 --   divided-iff              check 12 by places of the lines
+--   divides-at-place         the test for term k of a line
 --   divides-term-iff         the test for the terms of a line
 --   divided-by-another-iff   a monomial of a list at another place than i divides one of the line's
 --   divided-of-basis         check 12 by places of the basis
@@ -86,6 +87,10 @@ module _ {F M : Type 0} (R : Arithmetic F) where
               of_line = p;
               divides = subst (Divides 𝓜 (get_or G j d).0) e v;
             }
+
+pub divides-at-place : (n : ℕ) (d : Row n) (g : List LineTerm) (k : ℕ) {t : Bool} → t ≡ divides n d (row n (monomial_at g k))
+    → (t ≡ true) ↔ Divides (monomials n) d (row n (monomial_at g k))
+divides-at-place n d g k e = rw e (divides-iff n d _)
 
 pub divides-term-iff : (n : ℕ) (d : Row n) (g : List LineTerm) {t : Bool}
     → (t ≡ true) ↔ ((k : ℕ) × (k < length g) × (divides n d (row n (monomial_at g k)) ≡ true)) → (t ≡ true) ↔ DividesTerm n d g

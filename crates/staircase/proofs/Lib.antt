@@ -1,7 +1,7 @@
 -- The laws of the crate `staircase`.
 -- Places:
 --   ArrayRows           the rows of exponents that lists of monomials hold
---   RowsInTurn          the rows of a list of monomials that grows
+--   RowsInTurn          the rows of a list of monomials, one after the other
 --   LineElements        the lines of a basis of the code, by their places
 --   LineLeads           their leading monomials
 -- The loops:
@@ -14,6 +14,7 @@
 --   RisingPlaces        the places of a rising list
 --   PlacesInLists       the places of monomials in lists
 --   RankedLists         the ranks of lists of monomials
+--   Selecting           the smallest elements of a list, in rising order
 --   Sorting             the loop of `by_grevlex`
 --   SortedLists         what a sorted list has of the list that it was made of
 -- The checks:
@@ -41,6 +42,7 @@ pub mod Collecting
 pub mod RisingPlaces
 pub mod PlacesInLists
 pub mod RankedLists
+pub mod Selecting
 pub mod Sorting
 pub mod SortedLists
 pub mod SoundLines
