@@ -1,13 +1,16 @@
 -- Polynomials that are added to an array of coefficients.
+--   work-place      there is room for each monomial of at most the largest degree
+--   work-held       what a division asks of the array has what an addition asks of it
 --   adds_none       nothing is added
 --   adds-append     one polynomial after another
 --   adds_same       what is added is known by its coefficients
---   adds-work       the entries stay residues
+--   adds-held       the entries stay residues
+--   adds-work       so they do
 --   adds-holds      what the array holds then
 --   adds-store      a term is added by one store
 use mathlib.Core.Path.{◌≡◌, refl, sym, ◌∙◌, ap, ap₂}
 use mathlib.Core.List.{List, [], ◌∷◌, ◌++◌}
-use Prim.Native.Nat.{ℕ, ◌<◌}
+use Prim.Native.Nat.{ℕ, ◌≤◌, ◌<◌}
 use native.Mathlib.Nat.{mod-lt}
 use native.Mathlib.Omega.{arith}
 use lib.ListN.{length, get_or, set, length-set}
@@ -17,13 +20,20 @@ use Rattle.residue.specs.Field.{ZMod, modulo, residue}
 use Rattle.residue.proofs.ResidueField.{residue-ring}
 use Rattle.residue.proofs.Residues.{residue-below}
 use Rattle.residue.proofs.ModularLaws.{sum-zero, sum-assoc}
-use Rattle.monomial.specs.Rows.{Row}
+use Rattle.monomial.specs.Rows.{Row, degree}
 use Rattle.monomial.specs.Ordering.{monomials, row?}
 use Rattle.groebner.specs.Polynomials.{Poly, coef, Same}
 use Rattle.groebner.proofs.Terms.{coef-nil, coef-here, coef-there, coef-append}
-use Rattle.division.specs.GrevlexPlace.{place}
-use Rattle.division.specs.CoefficientArray.{HoldsPolynomial, Residues, Work, AddsPolynomial}
+use Rattle.division.specs.GrevlexPlace.{place, most_degree, space}
+use Rattle.division.specs.CoefficientArray.{HoldsPolynomial, Residues, Held, Work, AddsPolynomial}
+use Rattle.division.proofs.PlaceSums.{place-fits}
 use Rattle.division.proofs.GrevlexPlaces.{place-injective}
+
+pub work-place : (p n : ℕ) {w : List ℕ} (m : Row n) → Work p n w → degree n m ≤ most_degree → (place n m < space) × (place n m < length w)
+work-place p n m k l = let h = place-fits n m k.variables.most l in (h, omega (arith, h, k.room))
+
+pub work-held : {p n : ℕ} {w : List ℕ} → Work p n w → Held p n w
+work-held k = record { modulus = k.modulus; room = k.room; residues = k.residues }
 
 module _ (p n : ℕ) where
   pub adds_none : (w : List ℕ) → Residues p n w → AddsPolynomial p n w w (λ h. [])
@@ -46,13 +56,16 @@ module _ (p n : ℕ) where
       → AddsPolynomial p n w w' f → AddsPolynomial p n w w' g
   adds_same {w} e a = record { length = a.length; sums = λ h m. a.sums h m ∙ ap (λ x. sum_mod p (get_or w (place n m) 0) x.0) (e h m) }
 
-  pub adds-work : {w w' : List ℕ} {g : 1 < p → Poly (ZMod p) (Row n)} → Work p n w → AddsPolynomial p n w w' g → Work p n w'
+  pub adds-held : {w w' : List ℕ} {g : 1 < p → Poly (ZMod p) (Row n)} → Held p n w → AddsPolynomial p n w w' g → Held p n w'
   unfolding sum_mod
-  adds-work {w} {w'} k a = record {
+  adds-held {w} {w'} k a = record {
     modulus = k.modulus;
     room = omega (arith, a.length, k.room);
     residues = λ m. rw (a.sums k.modulus.prime.above_one m) (mod-lt _ (omega (arith, k.modulus.prime.above_one)));
   }
+
+  pub adds-work : {w w' : List ℕ} {g : 1 < p → Poly (ZMod p) (Row n)} → Work p n w → AddsPolynomial p n w w' g → Work p n w'
+  adds-work k a = let h = adds-held (work-held k) a in record { modulus = h.modulus; variables = k.variables; room = h.room; residues = h.residues }
 
   pub adds-holds : {w w' : List ℕ} {g : 1 < p → Poly (ZMod p) (Row n)} → AddsPolynomial p n w w' g
       → (h : 1 < p) (f : Poly (ZMod p) (Row n)) → HoldsPolynomial p h n w f → HoldsPolynomial p h n w' (f ++ g h)

@@ -1,8 +1,10 @@
 -- The division of what an array holds, one monomial a turn from the greatest down: the normal form is kept.
+--   clears-length                         a turn leaves the array's length the same
 --   KeepsNormalForm b sound w w'          what w' holds has the normal form of what w holds
 --   Swept b w₀ w m at                     down to m, which stands at the place `at`: at m and above it the array is zero, and the normal form is kept
 --   swept-start                           before the first turn
---   swept-low, swept-place                the monomial of the next turn
+--   swept-low, swept-place                the monomial of the next turn,
+--   swept-inside                          whose place is inside the array
 --   swept-turn                            a turn that clears it
 --   swept-true                            after the last turn
 --   swept-false                           a turn that does not clear it
@@ -13,7 +15,7 @@ use Prim.Native.Nat.{ℕ, suc, ◌-◌, ◌≤◌, ◌<◌}
 use native.Mathlib.Nat.{mod-lt}
 use native.Mathlib.Decide.{ℕ_discrete}
 use native.Mathlib.Omega.{arith}
-use lib.ListN.{get_or}
+use lib.ListN.{length, get_or}
 use Rattle.residue.specs.Modular.{sum_mod, negation_mod}
 use Rattle.residue.specs.Field.{ZMod, modulo}
 use Rattle.residue.proofs.ResidueField.{residue-ring}
@@ -34,15 +36,20 @@ use Rattle.groebner.proofs.GroebnerBases.{zero-remainder}
 use Rattle.lines.specs.declared.StoredBasis.{StoredBasis}
 use Rattle.staircase.specs.StoredLines.{stored_lines}
 use Rattle.staircase.specs.Sound.{Sound}
-use Rattle.division.specs.GrevlexPlace.{place, most_degree}
+use Rattle.division.specs.GrevlexPlace.{place, most_degree, space}
 use Rattle.division.specs.CoefficientArray.{HoldsPolynomial, HoldsZero, ZeroAbove, Work}
 use Rattle.division.specs.Clearing.{lead_at, line_at, multiple_of, line_multiple, Dividend, Sweeps}
 use Rattle.division.proofs.GrevlexPlaces.{place-grevlex, place-monotone, place-degree}
-use Rattle.division.proofs.AddedTerms.{adds-work, adds-holds}
+use Rattle.division.proofs.AddedTerms.{work-place, adds-work, adds-holds}
 use Rattle.division.proofs.MultipleCoefficients.{raised, multiple-top, multiple-above}
 use Rattle.division.proofs.ClearedMonomials.{Clears, idle, subtracted, stuck}
 use Rattle.division.proofs.KeptNormalForms.{NF-added, NF-top, NF-zero}
 use Rattle.division.proofs.BasisSystem.{ring_of, lines-low, system_of, earliest-line, irreducible-at}
+
+pub clears-length : {b : StoredBasis} {m : Row b.n} {w w' : List ℕ} {r : Bool} → Clears b m w w' r → length w' ≡ length w
+clears-length (idle e q) = ap length q
+clears-length (subtracted j f a) = a.length
+clears-length (stuck e f q) = ap length q
 
 -- Where the array is zero, so is the coefficient.
 coefficient-zero : (p : ℕ) (h : 1 < p) (n : ℕ) (w : List ℕ) (f : Poly (ZMod p) (Row n)) (a : Row n)
@@ -140,6 +147,9 @@ module _ {b : StoredBasis} {w₀ w : List ℕ} {m : Row b.n} {at : ℕ} (s : Swe
 
     pub swept-place : at - 1 ≡ place b.n m'
     swept-place = omega (arith, s.the_place)
+
+    pub swept-inside : (at - 1 < space) × (at - 1 < length w)
+    swept-inside = let (k, l) = work-place b.p b.n m' s.work swept-low in (omega (arith, swept-place), omega (arith, swept-place))
 
     rest : ZeroAbove b.n (suc (place b.n m')) w
     rest a l = s.above a (omega (arith, s.the_place))

@@ -1,7 +1,7 @@
 -- `add_product` meets its contract. The loop's invariant: the first terms are added.
 use native.Mathlib.Omega.{arith}
 use Rattle.monomial.proofs.Places.{row-monomial}
-use Rattle.division.proofs.AddedTerms.{adds-work}
+use Rattle.division.proofs.AddedTerms.{adds-held}
 use Rattle.division.proofs.LineTerms.{term-coefficient, term-monomial}
 use Rattle.division.proofs.AddedMultiples.{added-start, added-degree, added-fits, added-turn, added-stop}
 use Rattle.division.proofs.division.add_product.Goals as goal
@@ -28,7 +28,7 @@ add_term-requires c =
     let (line, addend) = c.requires in
     let h = c.loop-t-test.true in
     record {
-      work = adds-work _ _ addend.work c.loop-t.invariant.adds;
+      work = adds-held _ _ addend.work c.loop-t.invariant.adds;
       residue = c.mul.ensures.1;
       low = rw (c.product.ensures, row-monomial, term-monomial) (added-degree _ _ _ _ line _ h addend.low);
     }

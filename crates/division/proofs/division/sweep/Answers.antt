@@ -3,6 +3,7 @@ use mathlib.Core.Path.{sym, ◌∙◌}
 use native.Mathlib.Omega.{arith}
 use borrow.Author.Tests.{eqb-true, eqb-false}
 use Rattle.monomial.specs.Represented.{row}
+use Rattle.division.proofs.AddedTerms.{work-held}
 use Rattle.division.proofs.BasisSystem.{FirstDivisor, first-line, no-line}
 use Rattle.division.proofs.ClearedMonomials.{clears-idle, clears-subtracted, clears-stuck}
 use Rattle.division.proofs.SweptArrays.{swept-start, swept-low, swept-place, swept-turn, swept-true, swept-false}
@@ -32,7 +33,7 @@ add_line-requires c =
     let f = first (goal.at.add_line-requires c).In-Some in
     rw c.generator_at-g.ensures (
       s.sound.lines _ f.within,
-      record { work = s.work; residue = c.neg.ensures.1; low = swept-low s _ c.before-m.ensures },
+      record { work = work-held s.work; residue = c.neg.ensures.1; low = swept-low s _ c.before-m.ensures },
       f.here,
     )
 

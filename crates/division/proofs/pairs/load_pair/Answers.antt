@@ -1,5 +1,5 @@
 -- `load_pair` meets its contract.
-use Rattle.division.proofs.AddedTerms.{adds-work}
+use Rattle.division.proofs.AddedTerms.{work-held, adds-held}
 use Rattle.division.proofs.PairDivision.{divides-left, divides-right, pair-loaded}
 use Rattle.division.proofs.pairs.load_pair.Goals as goal
 
@@ -8,7 +8,7 @@ add_line-requires c =
     let pair = c.requires in
     rw (c.generator_at-f.ensures, pair.common) (
       pair.sound.lines _ pair.left,
-      record { work = pair.work; residue = pair.work.modulus.prime.above_one; low = rw pair.common at pair.low },
+      record { work = work-held pair.work; residue = pair.work.modulus.prime.above_one; low = rw pair.common at pair.low },
       divides-left c.args.basis.now c.args.i c.args.j,
     )
 
@@ -17,7 +17,7 @@ add_line-requires-2 c =
     let pair = c.requires in
     rw (c.generator_at-g.ensures, pair.common) (
       pair.sound.lines _ pair.right,
-      record { work = adds-work _ _ pair.work c.add_line.ensures; residue = c.neg.ensures.1; low = rw pair.common at pair.low },
+      record { work = adds-held _ _ (work-held pair.work) c.add_line.ensures; residue = c.neg.ensures.1; low = rw pair.common at pair.low },
       divides-right c.args.basis.now c.args.i c.args.j,
     )
 
