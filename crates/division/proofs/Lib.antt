@@ -1,6 +1,7 @@
 -- The theorems of the crate `division`.
 -- Lines of the code:
 --   LineTerms                                             the terms of a line by their places
+--   StoredLines                                           lines of a basis that are read
 -- Places in grevlex order:
 --   Binomials                                             the numbers of monomials below a degree
 --   GrevlexPlaces, PlaceSums                              the order of the places is grevlex; the sum that is the place
@@ -14,6 +15,7 @@
 --   FailingPlaces, PairSearch                             the pairs in turn
 --   LowPairs                                              after checks 12 to 14 least common multiples have degree at most n + 31
 pub mod LineTerms
+pub mod StoredLines
 pub mod Binomials
 pub mod GrevlexPlaces
 pub mod PlaceSums

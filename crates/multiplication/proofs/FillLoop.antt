@@ -14,6 +14,7 @@
 --   fill-led           the row, where a line leads with the product
 --   fill-through       where none does, and it is not listed, it comes through a smaller product
 --   fill-made          the row, where none does
+--   fill-nexts         the next products, after a turn
 --   fill-turn          a turn
 --   fill_stop          after the last turn
 use mathlib.Core.Path.{◌≡◌, sym, subst}
@@ -151,7 +152,7 @@ module _ {b : StoredBasis} {l : List Monomial} {rs xs gs : List ℕ} {t : Tables
             fill-made = row_made b known.given.sound l known.given.irreducibles t i (cursor c i) hi fill-inside
 
         module _ {r : ℕ} (rank : ProductRank rs (get_or xs i 0) (cursor c i + 1) r) where
-          fill-nexts : Nexts b.n l (record { at = set c.at i (cursor c i + 1) }) (set next i r)
+          pub fill-nexts : Nexts b.n l (record { at = set c.at i (cursor c i + 1) }) (set next i r)
           fill-nexts = nexts-more _ _ known.ranked.size known.ranked.ranks known.ranked.variables nexts i hi fill-place.1 filling.cursors r rank
 
           pub fill-turn : {w : Coordinates} {t' : Tables} → RowFor b l t i (cursor c i) w → RowPut t i (cursor c i) w t'

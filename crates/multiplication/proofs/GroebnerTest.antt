@@ -1,4 +1,5 @@
 -- The rows of the products x_i·B_s commute exactly if the lines of the basis are a Groebner basis, and as many lines as variables are one.
+--   candidate-fillable  such a basis can have its rows filled
 --   acceptance          the answer of `is_groebner`, by those of `fill` and `commute`
 --   square-acceptance   the answer yes where there are as many lines as variables
 use mathlib.Core.Path.{◌≡◌, ◌∙◌, subst}
@@ -31,7 +32,7 @@ use Rattle.staircase.proofs.ArrayRows.{rows-length}
 use Rattle.staircase.proofs.LineElements.{stored-lines-length}
 use Rattle.multiplication.specs.Rows.{cell_of}
 use Rattle.multiplication.specs.declared.rows.Tables.{Tables}
-use Rattle.multiplication.specs.Filling.{FilledRows}
+use Rattle.multiplication.specs.Filling.{Fillable, FilledRows}
 use Rattle.multiplication.specs.Criterion.{Candidate, Acceptance}
 
 abbrev prime_at : (b : StoredBasis) → Sound b → 1 < b.p → Prime b.p
@@ -42,6 +43,9 @@ module _ {b : StoredBasis} {l : List Monomial} (candidate : Candidate b l) where
 
   low : (h : 1 < b.p) → Low (Grevlex b.n) (stored_lines b h)
   low h g q = ((lines h).falling g q).0
+
+  pub candidate-fillable : Fillable b l
+  candidate-fillable = record { sound = sound; irreducibles = irreducibles; low = low }
 
   module _ {t : Tables} (rows : FilledRows b l t) (r : Bool) where
     rows-decide : (h : 1 < b.p)

@@ -1,4 +1,5 @@
 -- The three rules for the row of x_i·B_s, by the answers of the code.
+--   listed-length        the list has as many monomials as the code has
 --   listed-irreducible   what is listed is irreducible
 --   irreducible-listed   what is irreducible is listed
 --   listed-once          no monomial stands twice in the list
@@ -77,6 +78,9 @@ module _ (b : StoredBasis) (l : List Monomial) (irreducibles : ListsIrreducibles
 
   abbrev at : ℕ → Row n
   at k = listed_at n l k
+
+  pub listed-length : length B ≡ length l
+  listed-length = rows-length n l
 
   pub listed-irreducible : (k : ℕ) → k < length l → ¬ Reducible (monomials n) G (at k)
   listed-irreducible k m = (irreducibles.lists h).only (at k) (element-in (one n) B k (omega (arith, m, rows-length n l)))

@@ -1,7 +1,10 @@
 -- The loop of `tail_row`: the terms of a tail are subtracted, from the last on.
+--   subtracted-at        a store at a place of the list
+--   subtracted-nowhere   a place that is none
 --   Gathered             the terms from k on are subtracted, at the places of any list that has the ranks
 --   gathered_none        at first none
 --   gathered-small       the coefficient of the next term, as it is read, is below p
+--   gathered-place       its place is one of a line
 --   gathered-more        one term more
 --   gathered-all         after the last
 use mathlib.Core.Path.{◌≡◌, refl, sym, ◌∙◌, ap, subst}
@@ -11,11 +14,13 @@ use Prim.Native.Nat.{ℕ, suc, ◌+◌, ◌-◌, ◌%◌, ◌≤◌, ◌<◌}
 use native.Mathlib.Nat.{add-mod, mod-mod, mod-eq_of_lt}
 use native.Mathlib.Decide.{ℕ_discrete}
 use native.Mathlib.Omega.{arith}
-use lib.ListN.{length, get_or, drop, drop_of_length-le}
+use lib.ListN.{length, get_or, set, drop, drop_of_length-le}
+use lib.Seq.{get_or-set_same, get_or-set_other}
 use Rattle.std.specs.Prelude.{Option, Some, None}
 use Rattle.residue.specs.Modular.{sum_mod, negation_mod}
 use Rattle.residue.specs.Differences.{difference_mod}
 use Rattle.residue.specs.Field.{ZMod, modulo, residue}
+use Rattle.residue.specs.declared.Residue.{Residue}
 use Rattle.residue.proofs.ResidueField.{residue-ring}
 use Rattle.residue.proofs.Residues.{residue-same, residue-zero}
 use Rattle.monomial.specs.Rows.{Row}
@@ -24,6 +29,7 @@ use Rattle.monomial.specs.Represented.{row}
 use Rattle.groebner.specs.Polynomials.{coef}
 use Rattle.groebner.proofs.Modules.{self, opposite-null, opposite-plus}
 use Rattle.groebner.proofs.Terms.{coef-nil, coef-here, coef-there}
+use Rattle.lines.specs.Sizes.{most_standard, most_terms}
 use Rattle.lines.specs.LineTerms.{coefficient_at, monomial_at}
 use Rattle.lines.specs.declared.line.LineTerm.{LineTerm}
 use Rattle.staircase.specs.Sound.{SoundLine}
@@ -39,6 +45,24 @@ use Rattle.multiplication.proofs.TailTerms.{term-read, tail_of, term_at, tail-le
 residue-difference : (p : ℕ) (h : 1 < p) (a c : ℕ) → c < p → residue p h (difference_mod p a c) ≡ (modulo p h).add (residue p h a) ((modulo p h).neg (residue p h c))
 unfolding residue modulo sum_mod negation_mod difference_mod
 residue-difference p h a c l = residue-same (mod-mod _ p ∙ add-mod a (p - c) p ∙ ap (λ x. (a % p + (p - x) % p) % p) (sym (mod-eq_of_lt l)))
+
+module _ {p : ℕ} {r : Coordinates} {c : ℕ} (below : Below p r) where
+  pub subtracted-at : {at : ℕ} {x : Residue} → length r.c ≡ most_standard → at < most_standard → (x.0 ≡ difference_mod p (coordinate r at) c) × (x.0 < p)
+      → Subtracted p r c (Some at) (record { c = set r.c at x })
+  subtracted-at {at} {x} s l e = record {
+    below = record { below = λ k. by_cases (ℕ_discrete k at) (λ q. rw (q, here) e.1) (λ q. rw (other k q) (below.below k)) };
+    there = λ k q. let same : k ≡ at = cc in rw same (here ∙ e.0);
+    elsewhere = λ k q. other k (λ same. q (ap Some (sym same)));
+  }
+    where
+      here : (get_or (set r.c at x) at (record { 0 = 0 })).0 ≡ x.0
+      here = ap (λ (y : Residue). y.0) (get_or-set_same r.c at x (record { 0 = 0 }) (omega arith))
+
+      other : (k : ℕ) → ¬ (k ≡ at) → (get_or (set r.c at x) k (record { 0 = 0 })).0 ≡ coordinate r k
+      other k q = ap (λ (y : Residue). y.0) (get_or-set_other r.c at k x (record { 0 = 0 }) q)
+
+  pub subtracted-nowhere : Subtracted p r c None r
+  subtracted-nowhere = record { below = below; there = λ k q. cc; elsewhere = λ k q. refl }
 
 negative-zero : (p : ℕ) (h : 1 < p) → (modulo p h).neg (modulo p h).zero ≡ (modulo p h).zero
 unfolding self
@@ -87,6 +111,9 @@ module _ {p n : ℕ} {g : List LineTerm} {ranks : List ℕ} {r : Coordinates} {k
   -- The term at place k - 1, by what is read there.
   pub gathered-small : (d : LineTerm) → (get_or g (k - 1) d).coefficient.0 < p
   gathered-small d = rw (term-read g (k - 1) d inside).0 coefficient-small
+
+  pub gathered-place : (k - 1 < length g) × (k - 1 < most_terms)
+  gathered-place = (inside, omega (arith, inside, so_far.sound.few))
 
   one-more : {at : Option ℕ} {a : Coordinates}
       → ((l : List Monomial) → DistinctRanks n l ranks → Place n (listed n l) (row n (monomial_at g (k - 1))) at)

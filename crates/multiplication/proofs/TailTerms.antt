@@ -3,6 +3,7 @@
 --   term_at p h n g k   term k of the line g
 --   term-read           a term that is read at a place, whatever stands past the end of a line
 --   tail-length         it has one term less than the line
+--   tail_at             term k of it is term k + 1 of the line
 --   tail_from           the tail from term k on begins with that term
 use mathlib.Core.Path.{◌≡◌, refl, ◌∙◌, ap}
 use mathlib.Core.List.{List, [], ◌∷◌, map}
@@ -49,7 +50,7 @@ module _ (p : ℕ) (h : 1 < p) (n : ℕ) where
   tail-length [] = refl
   tail-length (t ∷ g) = ap length (tail-terms t g) ∙ length-map g as_term ∙ omega arith
 
-  tail_at : (g : List LineTerm) (k : ℕ) → suc k < length g → get_or (tail_of g) k (as_term no_term) ≡ term_at g (suc k)
+  pub tail_at : (g : List LineTerm) (k : ℕ) → suc k < length g → get_or (tail_of g) k (as_term no_term) ≡ term_at g (suc k)
   unfolding coefficient_at monomial_at
   tail_at [] k l = absurd (omega arith)
   tail_at (t ∷ g) k l = ap (λ (f : Poly (ZMod p) (Row n)). get_or f k (as_term no_term)) (tail-terms t g) ∙ get_or-map as_term g k no_term
