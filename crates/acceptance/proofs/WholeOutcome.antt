@@ -9,6 +9,7 @@ use mathlib.Core.Path.{◌≡◌, sym, ◌∙◌, ap}
 use mathlib.Core.List.{List}
 use mathlib.Core.Logic.{inl, inr, ◌↔◌, by_cases}
 use Prim.Native.Nat.{ℕ, ◌<◌}
+use Rattle.std.specs.Prelude.{Some}
 use Rattle.residue.specs.Prime.{Prime}
 use Rattle.residue.specs.Field.{Arithmetic, ZMod, modulo}
 use Rattle.monomial.specs.Rows.{Row}
@@ -80,7 +81,7 @@ AtMostOne {A} P = (o o' : A) → P o → P o' → o ≡ o'
 
 module _ {A : Type 0} (number : ℕ) {later : Judged A → Type 0} (one : AtMostOne later) where
   at-smallest-unique : (Of : ℕ → Type 0) → AtMostOne (refuse number at_smallest Of else later)
-  at-smallest-unique Of o o' (inl (k, a, p, e)) (inl (j, b, q, f)) = e ∙ ap (refused number) (smallest-unique {Of = Of} (a, p) (b, q)) ∙ sym f
+  at-smallest-unique Of o o' (inl (k, a, p, e)) (inl (j, b, q, f)) = e ∙ ap (refused number) (let same : Some k ≡ Some j = smallest-unique Of (a, p) (b, q) in cc) ∙ sym f
   at-smallest-unique Of o o' (inl (k, a, p, e)) (inr (n, l)) = absurd (n k a)
   at-smallest-unique Of o o' (inr (n, l)) (inl (j, b, q, f)) = absurd (n j b)
   at-smallest-unique Of o o' (inr (n, l)) (inr (m, l')) = one o o' l l'
