@@ -21,7 +21,6 @@
 --   OrderWord         the word between two places of a text
 --   LineVerdicts      the verdict on a line
 --   FoundKinds        the line that a found record is of
---   HeldLines         the lines that a basis holds: no other line is touched by one that is stored
 --   LinesLoop         the loop over the lines
 --   BasisLine         the basis line
 pub mod Tests
@@ -42,6 +41,5 @@ pub mod FirstTerm
 pub mod OrderWord
 pub mod LineVerdicts
 pub mod FoundKinds
-pub mod HeldLines
 pub mod LinesLoop
 pub mod BasisLine

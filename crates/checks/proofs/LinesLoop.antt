@@ -5,12 +5,11 @@
 --   stop           the end line passes, and so do all lines
 --   stop-refused   a line is refused, and so are the lines
 use Prim.Native.Nat.{ℕ, suc, ◌≤◌, ◌<◌}
-use mathlib.Core.Path.{◌≡◌}
-use mathlib.Core.List.{List, [], ◌∷◌, ◌++◌}
+use mathlib.Core.List.{List, [], ◌∷◌}
 use mathlib.Core.Logic.{⊎_elim}
 use mathlib.Core.Option.{none}
 use native.Mathlib.Omega.{arith}
-use lib.ListN.{length, drop, length-append}
+use lib.ListN.{length, drop}
 use Rattle.arrayvec.specs.ArrayVec.{ArrayVec}
 use Rattle.lists.specs.Lists.{Bytes, Each}
 use Rattle.lists.proofs.EachElement.{each_last}
@@ -21,12 +20,13 @@ use Rattle.lines.specs.Sizes.{most_lines}
 use Rattle.lines.specs.Terms.{Term}
 use Rattle.lines.specs.LineTerms.{terms_in, terms_of_lines}
 use Rattle.lines.specs.Bases.{PaddedLine, generators_in}
+use Rattle.lines.specs.Stored.{LinePut}
 use Rattle.lines.specs.declared.line.LineTerm.{LineTerm}
+use Rattle.lines.proofs.Stored.{held-length, line-appended}
 use Rattle.checks.specs.Checks.{check_generator, Remaining, generator_passed}
 use Rattle.checks.specs.Checks as checks
 use Rattle.checks.specs.Answers.{basis_of, Stops, PassedLine, LinesSays}
 use Rattle.checks.proofs.Sequence.{none-not-some}
-use Rattle.checks.proofs.HeldLines.{held-length, lines-pushed}
 use Rattle.std.specs.Prelude.{Ok, Err}
 
 generator-room : (p n k : ℕ) (terms : List Term) → check_generator p n k terms none → k ≤ most_lines
@@ -47,11 +47,11 @@ module _ (p n : ℕ) (text : Bytes) (begin : ℕ) where
     pub lines-room : (i : ℕ) (g : List LineTerm) → PassedLine p n (length ls) text at i g → length ls < most_lines
     lines-room i g h = omega (arith, generator-room p n (suc (length ls)) (terms_in n g) h.passes)
 
-    pub turn : (i : ℕ) (g : ArrayVec LineTerm) → PassedLine p n (length ls) text at i g.items → LinesInv (ls ++ (g ∷ [])) i
-    turn i g h = record {
-      most = omega (arith, lines-room i g.items h, length-append ls (g ∷ []));
-      padded = each_last (λ l. PaddedLine n l.items) ls inv.padded h.padded;
-      rest = λ o q. inv.rest o (generator_passed h.front (rw (held-length n ls) h.passes) (rw (lines-pushed n ls g) at q));
+    pub turn : (ls' : List (ArrayVec LineTerm)) (i : ℕ) (g : ArrayVec LineTerm) → LinePut ls g ls' → PassedLine p n (length ls) text at i g.items → LinesInv ls' i
+    turn ls' i g put h = record {
+      most = omega (arith, lines-room i g.items h, put.count);
+      padded = rw (line-appended ls g ls' put) (each_last (λ l. PaddedLine n l.items) ls inv.padded h.padded);
+      rest = λ o q. inv.rest o (generator_passed h.front (rw (held-length n ls) h.passes) (rw (put.terms n) at q));
     }
 
     pub stop : Stops p n (length ls) (drop at text) (Ok tt) → LinesSays p n (drop begin text) (Ok tt) (record { items = ls })

@@ -10,6 +10,7 @@ use arrayvec::ArrayVec;
 use lines::StoredBasis;
 use lines::line::Generator;
 use lines::sizes::MAX_LINES;
+use lines::store::put_line;
 use monomial::count::Variables;
 use tabtext::record::{Kind, read_record};
 
@@ -70,7 +71,7 @@ fn read_lines(
 {
     let mut at = start;
     while let Some((g, next)) = read_line(text, at, p, n, lines.len())? {
-        lines.push(g);
+        put_line(lines, g);
         at = next;
     }
     Ok(())

@@ -9,6 +9,7 @@ use crate::line::line_of;
 use arrayvec::ArrayVec;
 use coordinates::Coordinates;
 use lines::sizes::MAX_STANDARD;
+use lines::store::put_line;
 use monomial::Monomial;
 use monomial::count::Variables;
 use monomial::order::Ranking;
@@ -53,8 +54,10 @@ pub fn enumerate(
         );
         let x = rows.residual(w, field);
         let Some(pivot) = x.found() else {
-            lex.lines
-                .push(line_of(v, x.dependence(field), &lex.standard, field.p, n));
+            put_line(
+                &mut lex.lines,
+                line_of(v, x.dependence(field), &lex.standard, field.p, n),
+            );
             leads.push(v);
             m = next(&leads, v, ranking, n);
             continue;

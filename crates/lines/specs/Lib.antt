@@ -5,7 +5,9 @@
 -- Inner contracts:
 --   LineTerms   the terms of lines of the code
 --   Bases       a basis of the code
+--   Stored      a list of lines of which one is stored
 pub mod Sizes
 pub mod Terms
 pub mod LineTerms
 pub mod Bases
+pub mod Stored

@@ -2,6 +2,7 @@
 //
 //   sizes   the sizes of a basis
 //   line    a line and its terms
+//   store   a line is stored
 #![tactic(auto)]
 
 use crate::line::Generator;
@@ -11,6 +12,7 @@ use monomial::count::Variables;
 
 pub mod line;
 pub mod sizes;
+pub mod store;
 
 // The modulus, the number of variables, and the lines of a basis. A function that works on terms takes p and n apart: residues ask for the one, monomials for the other.
 #[derive(Default, Drop)]

@@ -20,7 +20,7 @@ returns-in_err-g c =
     rw (e.1, e.2) (stop-refused _ _ _ _ _ _ c.loop-g.invariant _ (rw c.len.ensures.value at c.in_err-g.ensures))
 
 pub loop-g-preserved : goal.loop-g-preserved
-loop-g-preserved c = rw c.push.ensures.items (turn _ _ _ _ _ _ c.loop-g.invariant _ _ (says (goal.at.loop-g-preserved c).In-Some))
+loop-g-preserved c = turn _ _ _ _ _ _ c.loop-g.invariant _ _ _ c.put_line.ensures.put (says (goal.at.loop-g-preserved c).In-Some)
 
 pub returns : goal.returns
 returns c = stop _ _ _ _ _ _ c.loop-g.invariant (rw (c.in_default.is, c.len.ensures.value) at c.in_ok-g.ensures)

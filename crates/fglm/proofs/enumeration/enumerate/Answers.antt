@@ -20,7 +20,7 @@ use Rattle.fglm.specs.declared.elimination.Rows.{Rows}
 use Rattle.fglm.proofs.Adding.{row_scaled}
 use Rattle.fglm.proofs.EnumerationLoop as loop
 use Rattle.fglm.proofs.EnumerationLoop.{Enumerating, VisitedOnce}
-use Rattle.fglm.proofs.enumeration.enumerate.Goals.{After-image_of-w, After-push-in_default-found, After-push-in-Some-3, At-loop-m, In-Some, In-Some-found, In_default-found, Start}
+use Rattle.fglm.proofs.enumeration.enumerate.Goals.{After-image_of-w, After-push, After-push-in-Some-3, At-loop-m, In-Some, In-Some-found, In_default-found, Start}
 use Rattle.fglm.proofs.enumeration.enumerate.Goals as goal
 
 size : (c : Start) → length (listed c.args.n c.args.irreducibles.now) ≡ length c.args.irreducibles.now
@@ -62,11 +62,11 @@ none : (c : In_default-found) → FirstPlace c.residual-x.result.vector None
 none c = subst (FirstPlace _) c.in_default-found.is c.found.ensures
 
 -- A line is written.
-line : (c : After-push-in_default-found) → let x = c.loop-m in
-    Visited (goal.at.After-push-in_default-found c).In-Some x.rows x.images.items x.ranks.items c.push.new.self.items x.lex.standard.items c.push-in_default-found.new.self.items
+line : (c : After-push) → let x = c.loop-m in
+    Visited (goal.at.After-push c).In-Some x.rows x.images.items x.ranks.items c.put_line.new.lines.items x.lex.standard.items c.push.new.self.items
 line c =
-    let at = goal.at.After-push-in_default-found c in
-    rw (c.push.ensures.items, c.push-in_default-found.ensures.items)
+    let at = goal.at.After-push c in
+    rw (c.put_line.ensures.items, c.push.ensures.items)
     (loop.after_line (head at.In-Some) (whole at.After-image_of-w) (image at.After-image_of-w) c.residual-x.ensures (none at.In_default-found) c.dependence.ensures
     (rw c.deref-in_default-found.ensures.0 at c.line_of.ensures))
 
@@ -104,11 +104,11 @@ image_of-w-requires c = let e = head (goal.at.image_of-w-requires c).In-Some in 
   divisors = loop.next-found e;
 })
 
-pub push-requires : goal.push-requires
-push-requires c = let e = head (goal.at.push-requires c).In-Some in (omega arith, omega (arith, loop.next-lines e, e.kept.line_count))
+pub put_line-requires : goal.put_line-requires
+put_line-requires c = let e = head (goal.at.put_line-requires c).In-Some in omega (arith, loop.next-lines e, e.kept.line_count)
 
-pub push-requires-in_default-found : goal.push-requires-in_default-found
-push-requires-in_default-found c = (omega arith, loop.next-lines (head (goal.at.push-requires-in_default-found c).In-Some))
+pub push-requires : goal.push-requires
+push-requires c = (omega arith, loop.next-lines (head (goal.at.push-requires c).In-Some))
 
 pub next-m-requires : goal.next-m-requires
 next-m-requires c = let e = head (goal.at.next-m-requires c).In-Some in
@@ -117,10 +117,10 @@ next-m-requires c = let e = head (goal.at.next-m-requires c).In-Some in
 pub loop-m-smaller-in_default-found : goal.loop-m-smaller-in_default-found
 loop-m-smaller-in_default-found c =
     let at = goal.at.loop-m-smaller-in_default-found c in
-    omega (arith, (line at.After-push-in_default-found).count, loop.next-few (head at.In-Some))
+    omega (arith, (line at.After-push).count, loop.next-few (head at.In-Some))
 
 pub loop-m-preserved-in_default-found : goal.loop-m-preserved-in_default-found
-loop-m-preserved-in_default-found c = loop.onward (line (goal.at.loop-m-preserved-in_default-found c).After-push-in_default-found) (rw c.deref-in_default-found-2.ensures.0 at c.next-m.ensures)
+loop-m-preserved-in_default-found c = loop.onward (line (goal.at.loop-m-preserved-in_default-found c).After-push) (rw c.deref-in_default-found-2.ensures.0 at c.next-m.ensures)
 
 pub insert-rows-requires : goal.insert-rows-requires
 insert-rows-requires c =
