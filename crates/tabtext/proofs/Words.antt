@@ -1,13 +1,15 @@
 -- Bytes, words and order words: printing and reading undo each other.
 --   read-of-byte, byte-of-read     one byte
 --   read-of-word, word-of-read     a word
---   word-said                      whether a word stands at a place
+--   word-said                      whether a word stands at a place: past the end none does but the empty one, which is at every place
 --   Letter                         the letters a to z
 --   read-of-order, order-of-read   an order word: 1 to 8 letters
 use Prim.Native.Nat.{ℕ, zero, suc, ◌+◌, ◌-◌, ◌≤◌, min}
 use mathlib.Core.Path.{◌≡◌, refl, ap, sym, ◌∙◌}
 use mathlib.Core.List.{[], ◌∷◌, ◌++◌, append_assoc, append-nil}
 use mathlib.Core.Bool.{Bool, true, false}
+use mathlib.Core.Logic.{⊎_elim}
+use native.Mathlib.Nat.{eq-zero-or-pos}
 use native.Mathlib.Omega.{arith}
 use lib.Dec.{eqb}
 use lib.ListN.{length, take, drop, length-append, length-drop}
@@ -48,21 +50,31 @@ word-of-read (b ∷ w) s e =
     let r = after-back _ _ _ e in
     byte-of-read b s r.front ∙ ap (λ x. b ∷ x) (word-of-read w r.between r.back)
 
+no-word : (w : Bytes) → length w ≡ 0 → w ≡ []
+no-word [] z = refl
+no-word (b ∷ w) z = absurd (omega (arith, z))
+
 -- What `starts_with` says of the bytes from a place on.
 module _ (w s : Bytes) (at : ℕ) where
-  word-begins : drop at s ≡ w ++ drop (length w) (drop at s) → WordAt w s at
-  word-begins e =
+  word-begins : (length w ≡ 0 → at ≤ length s) → drop at s ≡ w ++ drop (length w) (drop at s) → WordAt w s at
+  word-begins h e =
       let long : length s - at ≡ length w + length (drop (length w) (drop at s)) = sym (length-drop at s) ∙ ap length e ∙ length-append w _ in
-      record { reads = ap (read_word w) e ∙ read-of-word w _ ∙ ap (got tt) (drop-drop (length w) at s); inside = λ h. omega (arith, long) }
+      record {
+        reads = ap (read_word w) e ∙ read-of-word w _ ∙ ap (got tt) (drop-drop (length w) at s);
+        inside = ⊎_elim (λ z. omega (arith, h z, z)) (λ q. omega (arith, long, q)) (eq-zero-or-pos (length w));
+      }
 
-  pub word-said : (b : Bool) {i : ℕ} → i ≡ min at (length s) → b ≡ begins_with eqb (take (length s - i) (drop i s)) w → WordSays w s at b
+  pub word-said : (b : Bool) {i : ℕ} → i ≡ min at (length s) → b ≡ begins_with eqb (take (length s - i) (drop i s)) w →
+      ((length w ≡ 0 → at ≤ length s) → WordSays w s at b) × (length w ≡ 0 → b ≡ true)
   word-said b {i} m e =
       let rest : drop i s ≡ drop at s = rw m (drop_min at s) in
-      go b (starts_is Decides-eqb (drop at s) w b (e ∙ rw (← length-drop i s, take-length (drop i s), rest)))
+      let d = starts_is Decides-eqb (drop at s) w b (e ∙ rw (← length-drop i s, take-length (drop i s), rest)) in
+      (λ h. go b h d, λ z. d.1 (drop at s) (ap (λ l. l ++ drop at s) (sym (no-word w z))))
     where
-      go : (b : Bool) → (b ≡ true → drop at s ≡ w ++ drop (length w) (drop at s)) × ((rest : Bytes) → drop at s ≡ w ++ rest → b ≡ true) → WordSays w s at b
-      go true d = word-begins (d.0 refl)
-      go false d = other (read_word w (drop at s)) refl
+      go : (b : Bool) → (length w ≡ 0 → at ≤ length s) → (b ≡ true → drop at s ≡ w ++ drop (length w) (drop at s)) × ((rest : Bytes) → drop at s ≡ w ++ rest → b ≡ true)
+          → WordSays w s at b
+      go true h d = word-begins h (d.0 refl)
+      go false h d = other (read_word w (drop at s)) refl
         where
           other : (g : Got Unit) → read_word w (drop at s) ≡ g → read_word w (drop at s) ≡ bad
           other (got v rest) q = absurd (false-true (d.1 rest (word-of-read w (drop at s) q)))

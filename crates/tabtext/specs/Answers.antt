@@ -58,10 +58,10 @@ pub data FieldsSay (field : ℕ → Option ℕ → Type 0) (s : Bytes) : ℕ →
   fails : {i : ℕ} → starts_with 9 (drop i s) ≡ true → field i None → FieldsSay field s i None
   goes-on : {i j : ℕ} {r : Option ℕ} → starts_with 9 (drop i s) ≡ true → field i (Some j) → FieldsSay field s j r → FieldsSay field s i r
 
--- The word w stands at the place. (The empty word does at every place, past the end too.)
+-- The word w stands at the place.
 pub record WordAt (w s : Bytes) (at : ℕ) : Type 0 where
   pub reads : read_word w (drop at s) ≡ got tt (drop (at + length w) s)
-  pub inside : 0 < length w → at + length w ≤ length s
+  pub inside : at + length w ≤ length s
 
 -- It stands there, or it is not read.
 abbrev pub WordSays : Bytes → Bytes → ℕ → Bool → Type 0

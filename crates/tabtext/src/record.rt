@@ -1,5 +1,5 @@
 // The record of a line: its number and one of five line kinds (document 01, "The tab text").
-ghost use Rattle.std.specs.Prelude.{◌≡◌, ◌≤◌, length, drop};
+ghost use Rattle.std.specs.Prelude.{◌≡◌, ◌<◌, ◌≤◌, true, length, drop};
 ghost use Rattle.tabtext.specs.Text.{bytes};
 ghost use Rattle.tabtext.specs.Readers.{letter, read_order, read_last, read_header, read_generator, read_standard, read_line};
 ghost use Rattle.tabtext.specs.Answers.{NumberSays, NextSays, WordAt, WordSays, kind_read, read_at};
@@ -39,9 +39,11 @@ pub struct Record {
     pub kind: Kind,
 }
 
-// Whether a word stands at a place.
+// Whether a word stands at a place. Past the end none does but the empty word, which is at every place.
 pub fn word_at(text: &[u8], at: usize, word: &[u8]) -> bool
-    ensures { WordSays word.now text.now at result }
+    ensures within { at ≤ length text.now → WordSays word.now text.now at result }
+    ensures some { 0 < length word.now → WordSays word.now text.now at result }
+    ensures empty { length word.now ≡ 0 → result ≡ true }
 {
     text[at.min(text.len())..].starts_with(word)
 }

@@ -15,4 +15,4 @@ pub returns : goal.returns
 unfolding bytes
 returns c =
     let a = c.args in
-    word_same (bytes "grevlex") a.text.now a.word.start a.word.end c.word_at.result c.if-word-ne7.false c.word_at.ensures
+    word_same (bytes "grevlex") a.text.now a.word.start a.word.end c.word_at.result c.if-word-ne7.false (c.word_at.ensures.within (omega arith))

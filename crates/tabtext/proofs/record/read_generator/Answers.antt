@@ -10,7 +10,7 @@ use Rattle.tabtext.proofs.record.read_generator.Goals as goal
 
 pub overflow_add-start : goal.overflow_add-start
 unfolding bytes
-overflow_add-start c = omega (arith, c.requires.inside (omega arith))
+overflow_add-start c = omega (arith, c.requires.inside)
 
 pub returns-then-not-byte_is : goal.returns-then-not-byte_is
 unfolding bytes read_generator

@@ -9,7 +9,7 @@ use Rattle.tabtext.proofs.record.read_header.Goals as goal
 
 pub overflow_add-start : goal.overflow_add-start
 unfolding bytes
-overflow_add-start c = omega (arith, c.requires.inside (omega arith))
+overflow_add-start c = omega (arith, c.requires.inside)
 
 pub returns-in_err-end : goal.returns-in_err-end
 unfolding bytes read_header
@@ -34,4 +34,4 @@ returns c =
     let order = c.in_ok-end.ensures.1 in
     let last = c.in_ok-n.ensures in
     let steps = then-got _ _ _ order.reads ∙ then-got _ _ _ c.in_ok-p.ensures.reads ∙ then-got _ _ _ last.reads in
-    line-found c.requires _ steps last.inside (header-kind c.args.text.now _ c.args.at 0 _ _ (c.requires.inside (omega arith)) order)
+    line-found c.requires _ steps last.inside (header-kind c.args.text.now _ c.args.at 0 _ _ c.requires.inside order)

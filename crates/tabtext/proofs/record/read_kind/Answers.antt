@@ -1,5 +1,6 @@
 -- `record::read_kind` meets its contract: the first word decides, and where none of the words stands there is no line.
 use mathlib.Core.Path.{refl, ◌∙◌}
+use native.Mathlib.Omega.{arith}
 use lib.ListN.{drop}
 use Rattle.tabtext.specs.Text.{bytes}
 use Rattle.tabtext.specs.Readers.{pure, read_header, read_generator, read_standard, read_points, read_end}
@@ -17,44 +18,44 @@ returns-else-word_at-5 c =
     let a = c.args in
     rw
     (no_line a.n (drop a.at a.text.now)
-    (rw c.if-word_at.false at c.word_at.ensures)
-    (rw c.if-word_at-2.false at c.word_at-else-word_at.ensures)
-    (rw c.if-word_at-3.false at c.word_at-else-word_at-2.ensures)
-    (rw c.if-word_at-4.false at c.word_at-else-word_at-3.ensures)
-    (rw c.if-word_at-5.false at c.word_at-else-word_at-4.ensures))
+    (rw c.if-word_at.false at (c.word_at.ensures.some (omega arith)))
+    (rw c.if-word_at-2.false at (c.word_at-else-word_at.ensures.some (omega arith)))
+    (rw c.if-word_at-3.false at (c.word_at-else-word_at-2.ensures.some (omega arith)))
+    (rw c.if-word_at-4.false at (c.word_at-else-word_at-3.ensures.some (omega arith)))
+    (rw c.if-word_at-5.false at (c.word_at-else-word_at-4.ensures.some (omega arith))))
 
 pub read_header-requires : goal.read_header-requires
 unfolding bytes
-read_header-requires c = rw c.if-word_at.true at c.word_at.ensures
+read_header-requires c = rw c.if-word_at.true at (c.word_at.ensures.some (omega arith))
 
 pub read_generator-requires : goal.read_generator-requires
 unfolding bytes
-read_generator-requires c = rw c.if-word_at-2.true at c.word_at-else-word_at.ensures
+read_generator-requires c = rw c.if-word_at-2.true at (c.word_at-else-word_at.ensures.some (omega arith))
 
 pub read_standard-requires : goal.read_standard-requires
 unfolding bytes
-read_standard-requires c = rw c.if-word_at-3.true at c.word_at-else-word_at-2.ensures
+read_standard-requires c = rw c.if-word_at-3.true at (c.word_at-else-word_at-2.ensures.some (omega arith))
 
 pub returns-then-word_at : goal.returns-then-word_at
 unfolding bytes
-returns-then-word_at c = by_word _ read_header (rw c.if-word_at.true at c.word_at.ensures) (header-line _) c.read_header.ensures
+returns-then-word_at c = by_word _ read_header (rw c.if-word_at.true at (c.word_at.ensures.some (omega arith))) (header-line _) c.read_header.ensures
 
 pub returns-then-word_at-2 : goal.returns-then-word_at-2
 unfolding bytes
-returns-then-word_at-2 c = by_word _ (read_generator _) (rw c.if-word_at-2.true at c.word_at-else-word_at.ensures) (generator-line _) c.read_generator.ensures
+returns-then-word_at-2 c = by_word _ (read_generator _) (rw c.if-word_at-2.true at (c.word_at-else-word_at.ensures.some (omega arith))) (generator-line _) c.read_generator.ensures
 
 pub returns-then-word_at-3 : goal.returns-then-word_at-3
 unfolding bytes
-returns-then-word_at-3 c = by_word _ (read_standard _) (rw c.if-word_at-3.true at c.word_at-else-word_at-2.ensures) (standard-line _) c.read_standard.ensures
+returns-then-word_at-3 c = by_word _ (read_standard _) (rw c.if-word_at-3.true at (c.word_at-else-word_at-2.ensures.some (omega arith))) (standard-line _) c.read_standard.ensures
 
 -- A runs line, and an end line.
 runs : (c : Then-word_at-4) → WordAt (bytes "runs") c.args.text.now c.args.at
 unfolding bytes
-runs c = rw c.if-word_at-4.true at c.word_at-else-word_at-3.ensures
+runs c = rw c.if-word_at-4.true at (c.word_at-else-word_at-3.ensures.some (omega arith))
 
 ends : (c : Then-word_at-5) → WordAt (bytes "end") c.args.text.now c.args.at
 unfolding bytes
-ends c = rw c.if-word_at-5.true at c.word_at-else-word_at-4.ensures
+ends c = rw c.if-word_at-5.true at (c.word_at-else-word_at-4.ensures.some (omega arith))
 
 pub returns-in_err-points : goal.returns-in_err-points
 unfolding bytes read_points

@@ -9,7 +9,7 @@ use Rattle.tabtext.proofs.record.read_standard.Goals as goal
 
 pub overflow_add-start : goal.overflow_add-start
 unfolding bytes
-overflow_add-start c = omega (arith, c.requires.inside (omega arith))
+overflow_add-start c = omega (arith, c.requires.inside)
 
 pub returns-in_err-next : goal.returns-in_err-next
 unfolding bytes read_standard
