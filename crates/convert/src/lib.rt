@@ -10,7 +10,7 @@ ghost use Rattle.convert.specs.LexText.{ToPrint, written_of};
 ghost use Rattle.convert.specs.Finished.{PassedBasis, FinishedBasis};
 ghost use Rattle.convert.specs.Contract.{Meets};
 
-use crate::print::print_output;
+use crate::print::{output_width, print_output};
 use acceptance::text::check_text;
 use answer::{Answer, Refusal};
 use fglm::enumeration::enumerate;
@@ -22,7 +22,7 @@ use monomial::order::x1_to_xn;
 use multiplication::rows::Tables;
 use residue::field::PrimeField;
 use residue::reciprocals::Reciprocals;
-use tabtext::sink::{Count, Front};
+use tabtext::sink::Front;
 use tabtext::sizes::MAX_BYTES;
 
 pub mod print;
@@ -32,9 +32,8 @@ fn finish(output: &mut [u8], lex: &LexBasis, p: u16, n: Variables) -> Answer
     requires { ToPrint p n lex.now }
     ensures { (h : 1 < p) → Finished (written_of p h n lex.now) output.old output.new result }
 {
-    let mut count = Count { bytes: 0 };
-    print_output(&mut count, lex, p, n);
-    if output.len() < count.bytes {
+    let width = output_width(lex, p, n);
+    if output.len() < width {
         return Err(Refusal::OutputTooShort.at(0));
     }
     let mut front = Front { out: output, at: 0 };

@@ -2,6 +2,7 @@
 use Prim.Native.Nat.{ℕ, ◌<◌}
 use mathlib.Core.Path.{◌≡◌, refl, sym, subst}
 use mathlib.Core.List.{List, ◌++◌}
+use native.Mathlib.Omega.{arith}
 use lib.ListN.{length}
 use Rattle.arrayvec.specs.ArrayVec.{ArrayVec}
 use Rattle.lists.specs.Lists.{Bytes}
@@ -11,7 +12,7 @@ use Rattle.tabtext.specs.Text.{bytes, header, text}
 use Rattle.tabtext.specs.Printed.{standard_line, printed, count_line}
 use Rattle.tabtext.proofs.Writing.{Left, left-all, left_less, left-last, left-room}
 use Rattle.convert.specs.LexText.{generator_lines, written_of}
-use Rattle.convert.proofs.OutputParts.{output, written-output}
+use Rattle.convert.proofs.OutputParts.{output, written-output, written-width, header-short, counted-short}
 use Rattle.convert.proofs.print.print_output.Goals.{After-print_header, After-print_lines, After-print_standard, After-print_count, Start}
 use Rattle.convert.proofs.print.print_output.Goals as goal
 
@@ -68,7 +69,7 @@ print_lines-requires g c =
 after-lines : (g : _) (c : After-print_lines g) →
     let s = (goal.at.After-print_lines g c).Start in
     Rest g s (standard-line g s ++ (points-line g s ++ end_line g s)) c.print_lines.new.sink
-after-lines g c = left_less g.met.S.Sink.laws _ _ refl (after-header g (goal.at.After-print_lines g c).After-print_header) (rw c.deref.ensures.0 at c.print_lines.ensures)
+after-lines g c = left_less g.met.S.Sink.laws _ _ refl (after-header g (goal.at.After-print_lines g c).After-print_header) (rw c.deref.ensures.0 at c.print_lines.ensures.printed)
 
 pub print_standard-requires : goal.print_standard-requires
 print_standard-requires g c =
@@ -102,8 +103,22 @@ print_count-requires-2 g c =
     subst (λ (k : ℕ). g.S.Sink.takes c.print_count.new.sink (length (count_line (bytes "end") k))) (sym c.len-2.ensures.value)
     (after-points g (goal.at.print_count-requires-2 g c).After-print_count).room
 
-pub returns : goal.returns
+pub returns-clause-printed : goal.returns-clause-printed
 unfolding bytes
-returns g c h =
-    rw (parts g (goal.at.returns g c).Start h)
-    (left-last g.met.S.Sink.laws (after-points g (goal.at.returns g c).After-print_count) (rw c.len-2.ensures.value at c.print_count-2.ensures.printed))
+returns-clause-printed g c h =
+    rw (parts g (goal.at.returns-clause-printed g c).Start h)
+    (left-last g.met.S.Sink.laws (after-points g (goal.at.returns-clause-printed g c).After-print_count) (rw c.len-2.ensures.value at c.print_count-2.ensures.printed))
+
+pub returns-clause-short : goal.returns-clause-short
+unfolding bytes
+returns-clause-short g c h =
+    let w = c.requires.0.printable in
+    omega (
+      arith,
+      written-width c.args.p h c.args.n c.args.lex.now w,
+      header-short c.args.p c.args.n (omega arith) (omega arith),
+      rw c.deref.ensures.0 at c.print_lines.ensures.short,
+      rw c.deref-2.ensures.0 at c.print_standard.ensures.short,
+      counted-short (bytes "runs") (length c.args.lex.now.standard.items) (omega arith) (omega (arith, w.count)),
+      counted-short (bytes "end") (length c.args.lex.now.lines.items) (omega arith) (omega (arith, w.lines)),
+    )
