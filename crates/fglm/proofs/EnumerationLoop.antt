@@ -97,10 +97,10 @@ module _ {t : Reciprocals} {n : ℕ} {s : List ℕ} {l : List Monomial} {tables 
     setting : (prime : Prime t.field.p) (G : List (Line (ZMod t.field.p) (Row n))) → Enumerable t.field.p prime n l tables G → Setting t n s l tables
     setting prime G en = record { prime = prime; ranking = given.ranking; lines = G; enumerable = en; size = size }
 
-    pub enumerating-start : {rs : Rows} {m : Monomial}
+    empty-start : {rs : Rows} {m : Monomial}
         → rs.used ≡ 0 → length rs.rows ≡ most_standard
         → m ≡ monomial most_variables (one most_variables) → Enumerating t n s l tables rs [] [] [] [] [] (Some m)
-    enumerating-start {rs} {m} e r q = record {
+    empty-start {rs} {m} e r q = record {
       given = given;
       size = size;
       kept = record {
@@ -119,6 +119,11 @@ module _ {t : Reciprocals} {n : ℕ} {s : List ℕ} {l : List Monomial} {tables 
       stage = λ 𝓢. let w = progressed-none 𝓢 rs e in
           ([], w.0, subst (λ x. Stage 𝓢 [] (listed n []) (Some x)) (sym (held-row n (one n) (q ∙ one-held n given.variables.most))) w.1);
     }
+
+    pub enumerating-start : {rs : Rows} {images : List Coordinates} {ranks : List ℕ} {gs : List (ArrayVec LineTerm)} {standard ls : List Monomial} {m : Monomial}
+        → images ≡ [] → ranks ≡ [] → gs ≡ [] → standard ≡ [] → ls ≡ [] → rs.used ≡ 0 → length rs.rows ≡ most_standard
+        → m ≡ monomial most_variables (one most_variables) → Enumerating t n s l tables rs images ranks gs standard ls (Some m)
+    enumerating-start a b c d f e r q = rw (a, b, c, d, f) (empty-start e r q)
 
   module _ {rs : Rows} {images : List Coordinates} {ranks : List ℕ} {gs : List (ArrayVec LineTerm)} {standard ls : List Monomial} where
     pub standard-fits : {r : Option Monomial} → Enumerating t n s l tables rs images ranks gs standard ls r → length standard ≤ most_standard

@@ -89,9 +89,9 @@ standard c =
 pub loop-m-init : goal.loop-m-init
 loop-m-init c =
     let rows = c.none-rows in
-    rw (c.new-images.ensures, c.new-ranks.ensures, c.clear.ensures, c.clear-2.ensures, c.new-leads.ensures)
-    (loop.enumerating-start c.requires (size (goal.at.loop-m-init c).Start) rows.ensures
-    (search (rows.type_inv, length-mapped, rules)) c.one.ensures)
+    loop.enumerating-start c.requires (size (goal.at.loop-m-init c).Start)
+    c.new-images.ensures c.new-ranks.ensures c.clear.ensures c.clear-2.ensures c.new-leads.ensures rows.ensures
+    (search (rows.type_inv, length-mapped, rules)) c.one.ensures
 
 pub image_of-w-requires : goal.image_of-w-requires
 image_of-w-requires c = let e = head (goal.at.image_of-w-requires c).In-Some in rw (c.deref.ensures.0, c.deref-in-Some.ensures.0, c.deref-in-Some-2.ensures.0) (record {
