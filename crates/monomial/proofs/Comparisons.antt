@@ -1,5 +1,7 @@
 -- Two numbers compared, and what decides where they are equal.
+--   compared-less       Less says that the first number is smaller
 --   compared-equal      Equal says that the numbers are equal
+--   compared-greater    Greater says that the first number is larger
 --   compared-cmp        the library's comparison, by which exponents are ordered, says the same
 --   compared-sum        a number added to both changes no answer
 --   equal-not-less      Equal is not Less
@@ -49,8 +51,18 @@ says-compared x y Less l = rw (compared, lt-ltb x y l)
 says-compared x y Equal e = rw (compared, le-ltb x y (omega arith), le-ltb y x (omega arith))
 says-compared x y Greater l = rw (compared, le-ltb x y (omega arith), lt-ltb y x l)
 
-pub compared-equal : (x y : ℕ) → (compared x y ≡ Equal) ↔ (x ≡ y)
-compared-equal x y = (λ e. subst (Says x y) e (compared-says x y), says-compared x y Equal)
+compared-iff : (x y : ℕ) (c : Ordering) → (compared x y ≡ c) ↔ Says x y c
+compared-iff x y c = (λ e. subst (Says x y) e (compared-says x y), says-compared x y c)
+
+module _ (x y : ℕ) where
+  pub compared-less : (compared x y ≡ Less) ↔ (x < y)
+  compared-less = compared-iff x y Less
+
+  pub compared-equal : (compared x y ≡ Equal) ↔ (x ≡ y)
+  compared-equal = compared-iff x y Equal
+
+  pub compared-greater : (compared x y ≡ Greater) ↔ (y < x)
+  compared-greater = compared-iff x y Greater
 
 -- The library's comparison of two numbers.
 pub compared-cmp : (x y : ℕ) → nat_cmp x y ≡ compared x y

@@ -1,9 +1,11 @@
 -- A value that is filled with a row from the front, one store a turn.
---   filled n a i   its array after i turns: the first i exponents of a, and 0 from place i on
---   filled_none    after no turn it is the array of 1
---   filled_more    a turn stores the exponent of variable i at place i
---   filled-all     after n turns it is the array of the value with the exponents a
-use mathlib.Core.Path.{◌≡◌, refl, sym, ◌∙◌}
+--   filled n a i                                    its array after i turns: the first i exponents of a, and 0 from place i on
+--   filled_none                                     after no turn it is the array of 1
+--   filled_more                                     a turn stores the exponent of variable i at place i
+--   filled-all                                      after n turns it is the array of the value with the exponents a
+--   Pointwise                                       a row that is made of two by an operation on exponents, as product, quotient and lcm are
+--   pointwise-none, pointwise-more, pointwise-all   before the first turn, after a turn, and after the last
+use mathlib.Core.Path.{◌≡◌, refl, sym, ◌∙◌, ap, ap₂}
 use mathlib.Core.List.{List, ◌++◌, append_assoc}
 use Prim.Native.Nat.{ℕ, suc, ◌+◌, ◌-◌, ◌<◌, ◌≤◌}
 use native.Mathlib.Numerals.{add-one}
@@ -12,7 +14,7 @@ use lib.ListN.{length, get_or, set, take, replicate}
 use lib.Seq.{set_at, take-suc, take_all, length-take-le}
 use Rattle.monomial.specs.Sizes.{most_variables}
 use Rattle.monomial.specs.Rows.{Row, exponent, one}
-use Rattle.monomial.specs.Represented.{exponent_list, monomial}
+use Rattle.monomial.specs.Represented.{exponent_list, row, monomial}
 use Rattle.monomial.specs.declared.Exponent.{Exponent}
 use Rattle.monomial.specs.declared.Monomial.{Monomial}
 use Rattle.monomial.proofs.Places.{exponents-at, exponents-length}
@@ -44,3 +46,27 @@ filled-all n i a {m} h g f =
     let q : take n (exponent_list n a) ≡ exponent_list n a = take_all n (exponent_list n a) (omega (arith, exponents-length n a)) in
     let r : m.e ≡ (monomial n a).e = rw (p, q) at f in
     λ k. record { e = r k }
+
+-- The exponents of a are made of those of two monomials by f, and l has the first i of them.
+pub record Pointwise (f : ℕ → ℕ → ℕ) (m k : Monomial) (n : ℕ) (a : Row n) (l : List Exponent) (i : ℕ) : Type 0 where
+  pub made : (j : ℕ) → exponent n a j ≡ f (exponent n (row n m) j) (exponent n (row n k) j)
+  pub within : i ≤ n
+  pub stored : l ≡ filled n a i
+
+module _ {f : ℕ → ℕ → ℕ} {m k : Monomial} {n : ℕ} {a : Row n} where
+  pub pointwise-none : {r : Monomial} → ((j : ℕ) → exponent n a j ≡ f (exponent n (row n m) j) (exponent n (row n k) j))
+      → r ≡ monomial most_variables (one most_variables) → Pointwise f m k n a r.e 0
+  pointwise-none made e = record { made = made; within = omega arith; stored = ap (λ r. r.e) e ∙ filled_none n a }
+
+  -- x and y are exponent i of the two monomials.
+  pub pointwise-more : {l : List Exponent} {i : ℕ} {x y v : Exponent} → n ≤ most_variables → Pointwise f m k n a l i → i < n
+      → ((n : ℕ) → i < n → x.0 ≡ exponent n (row n m) i) → ((n : ℕ) → i < n → y.0 ≡ exponent n (row n k) i) → v.0 ≡ f x.0 y.0
+      → Pointwise f m k n a (set l i v) (i + 1)
+  pointwise-more {i = i} g so_far h p q e = record {
+    made = so_far.made;
+    within = omega arith;
+    stored = filled_more n i a _ h g so_far.stored (e ∙ ap₂ f (p n h) (q n h) ∙ sym (so_far.made i));
+  }
+
+  pub pointwise-all : {r : Monomial} {i : ℕ} → Pointwise f m k n a r.e i → n ≤ i → r ≡ monomial n a
+  pointwise-all {i = i} so_far h = filled-all n i a so_far.within h so_far.stored

@@ -1,5 +1,6 @@
 -- Grevlex is a monomial ordering.
 --   grevlex-then        the degrees decide, and then lex from the last variable on, with a and b exchanged
+--   grevlex-tie         at equal degree that lex decides
 --   grevlex-by          so say the library's comparison of the degrees and what is answered by it
 --   grevlex-less        what Less says
 --   grevlex-greater     what Greater says
@@ -27,7 +28,7 @@ use Rattle.std.specs.Ordering.{MatchOrdering, nat_cmp}
 use Rattle.std.proofs.lemmas.Cmp.{by_ranked}
 use Rattle.std.specs.declared.cmp.Ordering.TheVariants.{Less, Equal, Greater}
 use Rattle.monomial.proofs.Products.{degree-product}
-use Rattle.monomial.proofs.Comparisons.{compared-cmp, compared-sum, equal-not-less, equal-not-greater, then, then_less, then_equal, then-greater}
+use Rattle.monomial.proofs.Comparisons.{compared-equal, compared-cmp, compared-sum, equal-not-less, equal-not-greater, then, then_less, then_equal, then-greater}
 use Rattle.monomial.proofs.Comparisons.{otherwise, BelowBy, below-wf, comparison-order}
 use Rattle.monomial.proofs.LexOrder.{lex-cons-less, lex-cons-greater, lex-flip, lex-equal, lex-product, backwards-rank}
 
@@ -35,6 +36,9 @@ module _ (n : ℕ) (a b : Row n) where
   pub grevlex-then : grevlex n a b ≡ then (compared (degree n a) (degree n b)) (lex n (backwards n) b a)
   unfolding grevlex
   grevlex-then = refl
+
+  pub grevlex-tie : degree n a ≡ degree n b → grevlex n a b ≡ lex n (backwards n) b a
+  grevlex-tie e = rw (grevlex-then, (compared-equal (degree n a) (degree n b)).1 e)
 
   -- o is the library's comparison of the degrees.
   module _ {x y : ℕ} {o : Ordering} (d : x ≡ degree n a) (e : y ≡ degree n b) (of-degrees : o ≡ nat_cmp x y) where

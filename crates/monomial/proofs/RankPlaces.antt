@@ -1,16 +1,24 @@
--- Ranks and their places.
---   ranks-less                         a smaller rank of a list is that of a smaller monomial
---   ranks-bounded, variables-bounded   the ranks of a list are below above_ranks, and those of the variables
---   bounded-front                      the first ranks, as a list of their own, are bounded
---   first-front, next-front            what was found among them was found among the first ranks
---   sought-from                        what `place_after` finds
---   RanksStored n ranks₀ ranks k       the loop of `put_variable_ranks`: the first k ranks are stored
---   ranks-none, ranks-more, ranks-all   before the first turn, after a turn, and after the last
+-- Ranks and their places: equal ranks are those of equal monomials.
+--   rank_same                              the test of two ranks is that of their monomials
+--   ranks-less                             a smaller rank of a list is that of a smaller monomial
+--   ranks-bounded, variables-bounded       the ranks of a list are below above_ranks, and those of the variables
+--   bounded-front                          the first ranks, as a list of their own, are bounded
+--   first-front, next-front                what was found among them was found among the first ranks
+--   rank-found, rank-nowhere               a rank is sought one by one: it is found, and it is nowhere
+--   unseen_from, rank-passed               in rising ranks: it is sought from a place on, and a greater rank is found
+--   sought-from                            what `place_after` finds
+--   RanksStored n f count ranks₀ ranks k   the loop of `put_variable_ranks`: the first k ranks of the monomials f 0, f 1, .. are stored
+--   ranks-none, ranks-more, ranks-all      before the first turn, after a turn, and after the last
+--   variables-ranked                       after the last, of the variables
 use mathlib.Core.Path.{◌≡◌, sym, ◌∙◌, ap, subst}
 use mathlib.Core.List.{List}
-use mathlib.Core.Logic.{◌↔◌, ⊎_elim}
+use mathlib.Core.Bool.{true}
+use mathlib.Core.Logic.{◌↔◌, ⊎_elim, by_cases}
 use Prim.Native.Nat.{ℕ, ◌+◌, ◌≤◌, ◌<◌}
+use native.Mathlib.Decide.{dec_lt}
 use native.Mathlib.Omega.{arith}
+use borrow.Author.Tests.{eq-eqb, eqb-true}
+use lib.Dec.{eqb}
 use lib.ListN.{length, get_or, set, take, drop}
 use Rattle.std.proofs.lemmas.List.{get_or-take, length-take-le, get_or-drop, length-drop, take_all}
 use Rattle.std.proofs.lemmas.Bool.{cases_lt}
@@ -19,15 +27,19 @@ use Rattle.std.specs.Prelude.{◌-◌, Option, Some, None, Result, Ok, Err, Matc
 use Rattle.std.specs.Result.{result_ok}
 use Rattle.std.specs.Ordering.{nat_cmp}
 use Rattle.std.specs.List.Sorted.{IsBinarySearchResult}
+use Rattle.lists.proofs.Sought.{Unseen}
 use Rattle.lists.proofs.Storing.{FilledTo, stored-none, stored_more}
 use Rattle.monomial.specs.Sizes.{most_variables}
 use Rattle.monomial.specs.Rows.{Row, one}
 use Rattle.monomial.specs.Quotients.{variable}
 use Rattle.monomial.specs.Ordering.{Grevlex}
 use Rattle.monomial.specs.Ranks.{rank_of, Short, RanksOf, VariableRanks, RankAt, FirstRank, RisingRanks, Bounded, NextRank}
-use Rattle.monomial.proofs.RankOrder.{rank_less, rank-small}
+use Rattle.monomial.proofs.RankOrder.{rank_less, rank-injective, rank-small}
 
 module _ (n : ℕ) where
+  pub rank_same : {a b : Row n} {x y : ℕ} → (x ≡ rank_of n a) × Short n a → (y ≡ rank_of n b) × Short n b → (eqb x y ≡ true) ↔ (a ≡ b)
+  rank_same {a} {b} {x} {y} (p, s) (q, t) = (λ e. rank-injective n a b s t (sym p ∙ eqb-true x y e ∙ q), λ e. eq-eqb x y (p ∙ ap (rank_of n) e ∙ sym q))
+
   pub ranks-less : {B : List (Row n)} {count : ℕ} {ranks : List ℕ} → RanksOf n B count ranks → (j k : ℕ) → j < count → k < count
       → Grevlex n (get_or B j (one n)) (get_or B k (one n)) ↔ (get_or ranks j 0 < get_or ranks k 0)
   ranks-less are j k u v = rw (are.rank j u, are.rank k v) (rank_less n _ _ (are.short j u) (are.short k v))
@@ -73,6 +85,30 @@ module _ (ranks : List ℕ) {count : ℕ} (h : count ≤ length ranks) where
     none = λ e k u p. next.none e k (omega (arith, front-size)) (omega (arith, p, front-at u));
   }
 
+-- The rank w is sought.
+module _ (ranks : List ℕ) {count w k : ℕ} (so_far : Unseen (λ j. get_or ranks j 0 ≡ w) count k) where
+  pub rank-found : k < count → get_or ranks k 0 ≡ w → FirstRank ranks count w (Some k)
+  rank-found h e = record {
+    some = λ j q. let same : k ≡ j = cc in subst (RankAt ranks count w) same (record { within = h; found = e; first = so_far.nowhere });
+    none = λ q. cc;
+  }
+
+  pub rank-nowhere : count ≤ k → FirstRank ranks count w None
+  rank-nowhere h = record { some = λ j q. cc; none = λ _ j u. so_far.nowhere j (omega arith) }
+
+-- Rising ranks, of which the first are smaller than w.
+module _ (ranks : List ℕ) {count w : ℕ} (rising : RisingRanks ranks count) where
+  pub unseen_from : {k : ℕ} → k ≤ count → ((j : ℕ) → j < k → get_or ranks j 0 < w) → Unseen (λ j. get_or ranks j 0 ≡ w) count k
+  unseen_from h low = record { within = h; nowhere = λ j u e. omega (arith, low j u, e) }
+
+  pub rank-passed : {k : ℕ} → Unseen (λ j. get_or ranks j 0 ≡ w) count k → k < count → w ≤ get_or ranks k 0 → ¬ (get_or ranks k 0 ≡ w) → FirstRank ranks count w None
+  rank-passed {k} so_far h more other = record {
+    some = λ j q. cc;
+    none = λ _ j u e. by_cases (dec_lt j k) (λ v. so_far.nowhere j v e) (λ v. by_cases (dec_lt k j)
+        (λ q. omega (arith, rising k j q u, more, e))
+        (λ q. other (ap (λ i. get_or ranks i 0) (omega (arith, v, q)) ∙ e)));
+  }
+
 -- What a search of rising ranks from a place on finds, counted from there, is the first place of all.
 module _ (ranks : List ℕ) {from w : ℕ} (sought : RisingRanks ranks (length ranks) × (from ≤ length ranks) × ((k : ℕ) → k < from → get_or ranks k 0 < w)) where
   back-size : length (drop from ranks) ≡ length ranks - from
@@ -114,26 +150,26 @@ module _ (ranks : List ℕ) {from w : ℕ} (sought : RisingRanks ranks (length r
       → MatchOption (result_ok r) (o ≡ None) (λ k. o ≡ Some (from + k)) → FirstRank ranks (length ranks) w o
   sought-from r says is = found-from r (rw (take_all (length ranks - from) (drop from ranks) (omega (arith, back-size))) at says) is
 
--- The ranks of the first k variables are stored.
-pub record RanksStored (n : ℕ) (ranks₀ ranks : List ℕ) (k : ℕ) : Type 0 where
-  pub within : k ≤ n
-  pub room : n ≤ length ranks₀
-  pub filled : FilledTo (λ i x. (x ≡ rank_of n (variable n i)) × Short n (variable n i)) 0 ranks₀ ranks k
+-- Of the ranks of the monomials f 0, f 1, .. the first k are stored.
+pub record RanksStored (n : ℕ) (f : ℕ → Row n) (count : ℕ) (ranks₀ ranks : List ℕ) (k : ℕ) : Type 0 where
+  pub within : k ≤ count
+  pub room : count ≤ length ranks₀
+  pub filled : FilledTo (λ j x. (x ≡ rank_of n (f j)) × Short n (f j)) 0 ranks₀ ranks k
 
-pub ranks-none : {n : ℕ} {ranks : List ℕ} → n ≤ length ranks → RanksStored n ranks ranks 0
-ranks-none h = record { within = omega arith; room = h; filled = stored-none _ _ _ }
+module _ {n : ℕ} {f : ℕ → Row n} {count : ℕ} where
+  pub ranks-none : {ranks : List ℕ} → count ≤ length ranks → RanksStored n f count ranks ranks 0
+  ranks-none h = record { within = omega arith; room = h; filled = stored-none _ _ _ }
 
-module _ {n : ℕ} {ranks₀ ranks : List ℕ} {k : ℕ} (so_far : RanksStored n ranks₀ ranks k) where
-  pub ranks-more : {x : ℕ} → k < n → (x ≡ rank_of n (variable n k)) × Short n (variable n k) → RanksStored n ranks₀ (set ranks k x) (k + 1)
-  ranks-more h e = record {
-    within = omega arith;
-    room = so_far.room;
-    filled = stored_more _ _ _ _ k _ so_far.filled (omega (arith, so_far.room)) e;
-  }
+  module _ {ranks₀ ranks : List ℕ} {k : ℕ} (so_far : RanksStored n f count ranks₀ ranks k) where
+    pub ranks-more : {x : ℕ} → k < count → (x ≡ rank_of n (f k)) × Short n (f k) → RanksStored n f count ranks₀ (set ranks k x) (k + 1)
+    ranks-more h e = record {
+      within = omega arith;
+      room = so_far.room;
+      filled = stored_more _ _ _ _ k _ so_far.filled (omega (arith, so_far.room)) e;
+    }
 
-  pub ranks-all : n ≤ k → VariableRanks n ranks
-  ranks-all h = record {
-    many = omega (arith, so_far.room, so_far.filled.size);
-    rank = λ i u. (so_far.filled.stored i (omega arith)).0;
-    short = λ i u. (so_far.filled.stored i (omega arith)).1;
-  }
+    pub ranks-all : count ≤ k → (count ≤ length ranks) × ((j : ℕ) → j < count → (get_or ranks j 0 ≡ rank_of n (f j)) × Short n (f j))
+    ranks-all h = (omega (arith, so_far.room, so_far.filled.size), λ j u. so_far.filled.stored j (omega arith))
+
+pub variables-ranked : {n : ℕ} {ranks₀ ranks : List ℕ} {k : ℕ} → RanksStored n (variable n) n ranks₀ ranks k → n ≤ k → VariableRanks n ranks
+variables-ranked so_far h = let (many, at) = ranks-all so_far h in record { many = many; rank = λ j u. (at j u).0; short = λ j u. (at j u).1 }
