@@ -1,4 +1,5 @@
 -- A basis of the code that passed checks 2 to 11 is sound.
+--   term-at          term k of a line, as a term of the text
 --   good-sound       a line whose terms make a good line of a text is sound
 --   checked-sound    so is a basis of the code that checks 2 to 11 pass
 use mathlib.Core.Path.{◌≡◌, sym, ◌∙◌, ap, subst, subst₂}
@@ -57,7 +58,7 @@ module _ (p n : ℕ) (g : List LineTerm) where
   abbrev none : Term
   none = term_of n no_term
 
-  term-at : (k : ℕ) → get_or terms k none ≡ (coefficient_at g k, exponents_of n (monomial_at g k))
+  pub term-at : (k : ℕ) → get_or terms k none ≡ (coefficient_at g k, exponents_of n (monomial_at g k))
   unfolding terms_in term_of coefficient_at monomial_at
   term-at k = get_or-map (term_of n) g k no_term
 

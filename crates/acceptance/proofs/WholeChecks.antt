@@ -8,6 +8,7 @@
 --   whole-large                  14: `list_irreducibles` found too many
 --   lines_clear                  no monomial of a line is divisible by another line's leading monomial
 --   not-large                    `list_irreducibles` listed all
+--   pairable                     so the least common multiples of leading monomials are low, as check 15 asks
 --   failing                      15: the answer no of `is_groebner`: the basis is as `first_failing` asks, and check 15 speaks of a line
 --   whole-failing                the answer of `first_failing`
 --   whole-passes                 the answer yes: the basis passes
@@ -31,7 +32,7 @@ use Rattle.monomial.proofs.OrderLaws.{MonomialOrder}
 use Rattle.monomial.specs.declared.Monomial.{Monomial}
 use Rattle.monomial.proofs.LexOrder.{lex-order}
 use Rattle.monomial.proofs.GrevlexOrder.{grevlex-order}
-use Rattle.answer.specs.Outcomes.{Judged, passed}
+use Rattle.answer.specs.Outcomes.{Judged, passed, refuse◌at_smallest◌else◌, refuse◌at_0_if◌else◌}
 use Rattle.answer.specs.declared.Refused.{Refused}
 use Rattle.answer.specs.declared.Refusal.TheVariants.{NotReduced, NotZeroDimensional, TooManyStandardMonomials, NotGroebner}
 use Rattle.groebner.specs.Lines.{Lines, Reducible}
@@ -62,6 +63,7 @@ use Rattle.multiplication.specs.Criterion.{Acceptance}
 use Rattle.division.specs.PairRemainders.{Pairable, FirstFailing}
 use Rattle.division.proofs.LowPairs.{low-pairs}
 use Rattle.acceptance.specs.Answers.{WholeVerdict, LeadsPass, Convertible, WholeSays}
+use Rattle.acceptance.proofs.SmallestRefused.{smallest-refuses}
 use Rattle.acceptance.proofs.WholeOutcome.{Passing, passing-iff}
 
 -- Nothing comes after the checks.
@@ -77,7 +79,11 @@ module _ (b : StoredBasis) where
   says-refused e t o = record { verdict = o; convertible = λ l q. let z : ◌≡◌ {A = ℕ} 0 1 = cc in absurd (omega arith) }
 
   pub whole-divided : (k : ℕ) → FirstDivided b (Some k) → Refuses (record { refusal = NotReduced; line = k })
-  whole-divided k first h = inl (k, (first h).0, (first h).1, refl)
+  whole-divided k first h = smallest-refuses 12 (
+      refuse 13 at_0_if ¬ ZeroDimensional b.n (stored_lines b h) else
+      refuse 14 at_0_if Large b.n (stored_lines b h) else
+      refuse 15 at_smallest Failing (modulo b.p h) (monomials b.n) (stored_lines b h) (Grevlex b.n) else
+      Passes) (first h)
 
   module _ (ms : List Monomial) (leads : LeadsOf b ms) where
     pub zero-dimensional-leads : (h : 1 < b.p) → Powers b.n (rows_of b.n ms) ↔ ZeroDimensional b.n (stored_lines b h)
@@ -117,12 +123,11 @@ module _ (b : StoredBasis) where
     not-large h (k, e, once, each) =
         omega (arith, pigeon k (listed b.n l) once (λ m q. (irreducible.lists h).all m (each_at _ k each q)), e, rows-length b.n l, irreducible.few)
 
-    -- The least common multiples of leading monomials are low.
-    pairable : Pairable b
+    pub pairable : Pairable b
     pairable = let h = sound.modulus.prime.above_one in record { sound = sound; low = low-pairs b sound h (pass h).0 (pass h).1 (not-large h) }
 
     pub whole-failing : (k : ℕ) → FirstFailing b (Some k) → Refuses (record { refusal = NotGroebner; line = k })
-    whole-failing k first h = inr ((pass h).0, inr (λ z. z (pass h).1, inr (not-large h, inl (k, (first h).0, (first h).1, refl))))
+    whole-failing k first h = inr ((pass h).0, inr (λ z. z (pass h).1, inr (not-large h, smallest-refuses 15 Passes (first h))))
 
     abbrev prime : 1 < b.p → Prime b.p
     prime h = record { above_one = h; no_divisor = sound.modulus.prime.no_divisor }

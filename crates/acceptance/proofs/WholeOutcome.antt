@@ -2,6 +2,7 @@
 --   Passing p prime n G   checks 12, 13 and 15 speak of nothing
 --   passing-iff           they do exactly if the lines are, each once, a reduced grevlex Groebner basis with finitely many irreducible monomials
 --   whole-of-passing      for such lines only check 14 is left, and what comes after
+--   whole-passed          what passes is such a basis, with at most 32 irreducible monomials
 --   AtMostOne P           at most one value has P
 --   at-0-unique           a check of the whole text has one outcome, if those after it do
 --   whole_unique          the checks have one outcome, if those after them do
@@ -16,7 +17,8 @@ use Rattle.monomial.specs.Rows.{Row}
 use Rattle.monomial.specs.Ordering.{monomials, Grevlex}
 use Rattle.monomial.proofs.Products.{rows-laws}
 use Rattle.monomial.proofs.GrevlexOrder.{grevlex-order}
-use Rattle.answer.specs.Outcomes.{Judged, refused, refuse◌at_smallest◌else◌, refuse◌at_0_if◌else◌}
+use Rattle.answer.specs.Outcomes.{Judged, refused, passed, refuse◌at_smallest◌else◌, refuse◌at_0_if◌else◌}
+use Rattle.answer.proofs.Outcomes.{passed-not-refused}
 use Rattle.groebner.specs.Lines.{Line, Lines, Reducible}
 use Rattle.groebner.specs.Bases.{Reduced}
 use Rattle.groebner.specs.Standard.{ZeroDimensional, Finite}
@@ -74,6 +76,13 @@ module _ (p : ℕ) (prime : Prime p) (n : ℕ) (G : List (Line (ZMod p) (Row n))
         back : (refuse 14 at_0_if Large n G else later) o → Whole p h n G later o
         back (inl x) = inr (w.undivided, inr (w.dimension, inl x))
         back (inr (x, l)) = inr (w.undivided, inr (w.dimension, inr (x, inr (w.unfailing, l))))
+
+    pub whole-passed : (a : A) → Whole p h n G later (passed a) → Passing × (¬ Large n G) × later (passed a)
+    whole-passed a (inl (k, d, q, e)) = absurd (passed-not-refused e)
+    whole-passed a (inr (u, inl (z, e))) = absurd (passed-not-refused e)
+    whole-passed a (inr (u, inr (z, inl (x, e)))) = absurd (passed-not-refused e)
+    whole-passed a (inr (u, inr (z, inr (x, inl (k, f, q, e))))) = absurd (passed-not-refused e)
+    whole-passed a (inr (u, inr (z, inr (x, inr (v, l))))) = (record { undivided = u; dimension = z; unfailing = v }, x, l)
 
 -- At most one value has P.
 abbrev pub AtMostOne : {A : Type 0} → (A → Type 0) → Type 0

@@ -1,6 +1,7 @@
 -- The conversion of a basis that passed checks 2 to 15.
 --   enumerates       the enumeration has what it asks
---   converts         what it gives is the lex basis with its standard monomials
+--   to-print         what it gives can be printed
+--   converts         and is the lex basis with its standard monomials
 --   finished-basis   so the printing ends the conversion
 use Prim.Native.Nat.{ℕ, ◌<◌}
 use mathlib.Core.Path.{◌≡◌, sym, subst}
@@ -33,7 +34,7 @@ use Rattle.fglm.specs.Enumerable.{Enumerated}
 use Rattle.fglm.specs.Enumerable as fglm
 use Rattle.fglm.specs.declared.lex_basis.LexBasis.{LexBasis}
 use Rattle.fglm.proofs.BasisLines.{convertible, converted-at}
-use Rattle.convert.specs.LexText.{written_of}
+use Rattle.convert.specs.LexText.{ToPrint, written_of}
 use Rattle.convert.specs.Outcome.{Converts}
 use Rattle.convert.specs.Finished.{PassedBasis, FinishedBasis}
 use Rattle.convert.proofs.Conversions.{outcome-converts}
@@ -67,6 +68,9 @@ module _ (b : StoredBasis) (l : List Monomial) (t : Tables) (basis : PassedBasis
         Enumerates (modulo b.p h) b.n (Grevlex b.n) (Lex b.n (variables b.n)) (read.stored_lines b h) (length l) (H h) (found_standard b.n r))
     at = converted-at b reciprocals same (variables b.n) l t sizes given.irreducibles (variables-ranking b.n) given.below
         low clear (λ h. (reduced h).groebner) given.filled r found
+
+    pub to-print : ToPrint b.p b.n r
+    to-print = record { above_one = modulus.prime.above_one; printable = at.0 }
 
     pub converts : (h : 1 < b.p) → Converts b.p h b.n (read.stored_lines b h) (H h) (found_standard b.n r)
     converts h = subst (λ (h : 1 < b.p). Converts b.p h b.n (read.stored_lines b h) (H h) (found_standard b.n r)) (le_prop prime.above_one h)

@@ -1,8 +1,9 @@
 -- The last check: the room for the output.
---   finished-enough    the room is long enough: the output is written from the first byte on
+--   finished-short     the room is too short: nothing is written
+--   finished-enough    it is not: the output is written from the first byte on
 --   finished-outcome   the outcome of check 16, which the answer and the bytes are
 use Prim.Native.Nat.{ℕ, ◌<◌}
-use Rattle.std.specs.Prelude.{Result, Ok}
+use Rattle.std.specs.Prelude.{Result, Ok, Err}
 use mathlib.Core.Path.{◌≡◌, refl, ap, ◌∙◌}
 use mathlib.Core.List.{◌++◌}
 use mathlib.Core.Logic.{inl, inr, by_cases}
@@ -15,10 +16,14 @@ use Rattle.lists.specs.Lists.{Bytes}
 use Rattle.answer.specs.Outcomes.{Judged, refused, passed}
 use Rattle.answer.specs.Answers.{pair, returned, after}
 use Rattle.answer.specs.Finished.{Finished}
+use Rattle.answer.specs.declared.Refusal.TheVariants.{OutputTooShort}
 use Rattle.answer.specs.declared.Refused.{Refused}
 use Rattle.convert.specs.Outcome.{Fits}
 
 module _ (out was : Bytes) where
+  pub finished-short : length was < length out → Finished out was was (Err (record { refusal = OutputTooShort; line = 0 }))
+  finished-short h = record { short = λ _. (refl, refl); enough = λ e. absurd (e h) }
+
   whole : ¬ (length was < length out) → sets was 0 out ≡ out ++ drop (length out) was
   whole e = sets-eq out was 0 (omega arith) ∙ rw zero-add
 

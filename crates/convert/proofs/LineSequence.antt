@@ -4,7 +4,7 @@
 --   CountingLines ls k j                       the lines of ls up to place j have at most k bytes each
 --   counting-lines-start, -turn, -end          before the first turn; after a turn; after the last turn
 --   PrintingLines ls takes after was now j     a loop that prints the lines ls to a sink, at place j
---   printing-lines-room, -turn, -end           room for a line; a turn; after the last turn
+--   printing-lines-start, -room, -turn, -end   before the first turn; room for a line; a turn; after the last turn
 use Prim.Native.Nat.{ℕ, ◌+◌, ◌*◌, ◌≤◌}
 use mathlib.Core.Path.{◌≡◌, refl, ap, ◌∙◌}
 use mathlib.Core.List.{List, [], ◌∷◌, ◌++◌, append_assoc}
@@ -15,7 +15,7 @@ use Rattle.tabtext.specs.Text.{TextLine, line, text}
 use Rattle.tabtext.specs.Printed.{printed}
 use Rattle.tabtext.specs.Sinks.{SinkLaws}
 use Rattle.tabtext.proofs.Separators.{StandsAt}
-use Rattle.tabtext.proofs.Writing.{Left, left_less, left-none, left-room}
+use Rattle.tabtext.proofs.Writing.{Left, left-all, left_less, left-none, left-room}
 
 pub text-line : (l : TextLine) (ls : List TextLine) → text (l ∷ ls) ≡ printed l ++ text ls
 unfolding text printed
@@ -56,6 +56,9 @@ module _ {ls : List TextLine} {k j : ℕ} (c : CountingLines ls k j) where
   counting-lines-end h = omega (arith, c.most, ap length (text-none ls j h))
 
 module _ {S : Type 0} {takes : S → ℕ → Type 0} {after : S → Bytes → S} (laws : SinkLaws takes after) {ls : List TextLine} {was : S} where
+  pub printing-lines-start : takes was (length (text ls)) → PrintingLines ls takes after was was 0
+  printing-lines-start t = record { left = left-all laws refl t }
+
   module _ {now : S} {j : ℕ} (p : PrintingLines ls takes after was now j) where
     pub printing-lines-room : (l : TextLine) → StandsAt ls j l → takes now (length (printed l))
     printing-lines-room l s = left-room laws (printed l) (text (drop (j + 1) ls)) (text-more ls j l s) p.left

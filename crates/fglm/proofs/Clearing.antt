@@ -1,19 +1,21 @@
 -- The loop of `insert`: the rows are cleared at the pivot of q, one a turn.
 --   Clearing p q s₀ s i   the first i rows of s are those of s₀ cleared at the pivot of q, the others those of s₀
+--   clearing-start        before the first turn
 --   clearing-row          row i is not cleared yet
 --   clearing-turn         a turn clears row i
 --   clearing-skip         or finds it cleared
 --   clearing-is           so it is of what is equal to s
-use mathlib.Core.Path.{◌≡◌, sym, subst}
+--   clearing-stop         after the last turn
+use mathlib.Core.Path.{◌≡◌, refl, sym, subst}
 use mathlib.Core.List.{List}
 use mathlib.Core.Logic.{⊎_elim}
 use Prim.Native.Nat.{ℕ, ◌+◌, ◌<◌, ◌≤◌}
 use native.Mathlib.Nat.{eq-or-lt_of_le}
 use native.Mathlib.Omega.{arith}
 use lib.ListN.{length, get_or, set}
-use Rattle.lists.proofs.Storing.{FilledTo, stored_more}
+use Rattle.lists.proofs.Storing.{FilledTo, stored-none, stored_more}
 use Rattle.fglm.specs.RowState.{no_row, row_at}
-use Rattle.fglm.specs.Steps.{ClearedRow}
+use Rattle.fglm.specs.Steps.{ClearedRow, ClearedRows}
 use Rattle.fglm.specs.declared.elimination.Reduced.{Reduced}
 use Rattle.fglm.specs.declared.elimination.Rows.{Rows}
 
@@ -34,6 +36,9 @@ pub clearing-is : {p : ℕ} {q : Reduced} {s₀ s r : Rows} {i : ℕ} → r ≡ 
 clearing-is {p} {q} {s₀} {i = i} e c = subst (λ z. Clearing p q s₀ z i) (sym e) c
 
 module _ {p : ℕ} {q : Reduced} {s₀ : Rows} where
+  pub clearing-start : Clearing p q s₀ s₀ 0
+  clearing-start = record { used = refl; within = omega arith; rows = stored-none _ _ _ }
+
   module _ {s : Rows} {i : ℕ} (clearing : Clearing p q s₀ s i) where
     -- Row i is not cleared yet.
     pub clearing-row : row_at s i ≡ row_at s₀ i
@@ -53,3 +58,6 @@ module _ {p : ℕ} {q : Reduced} {s₀ : Rows} where
       within = omega arith;
       rows = stored_same _ _ _ _ i clearing.rows (subst (λ x. ClearedRow p q x (row_at s i)) clearing-row e);
     }
+
+    pub clearing-stop : s₀.used ≤ i → ClearedRows p q s₀ s
+    clearing-stop l = record { used = clearing.used; size = clearing.rows.size; rows = λ k m. clearing.rows.stored k (omega arith) }

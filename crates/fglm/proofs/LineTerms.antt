@@ -1,4 +1,5 @@
 -- The terms of the line that the code writes for a dependent monomial.
+--   terms_as p h n ts       terms of the code as terms of a polynomial
 --   Writing p n m c l g k   what holds at the head of the loop of `line_of`: the line g has m, and the terms of the monomials of l from place k on
 --   writing-start           before the first turn
 --   writing-more            a turn pushes a term
@@ -42,7 +43,7 @@ use Rattle.fglm.specs.WrittenLines.{LineInput, WrittenLine}
 use Rattle.fglm.proofs.PlacedTerms.{placed, placed-ordered}
 
 -- The terms of a line as terms of a polynomial.
-abbrev terms_as : (p : ℕ) → 1 < p → (n : ℕ) → List Term → Poly (ZMod p) (Row n)
+abbrev pub terms_as : (p : ℕ) → 1 < p → (n : ℕ) → List Term → Poly (ZMod p) (Row n)
 terms_as p h n ts = map (λ (u : Term). (residue p h u.0, as_row n u.1)) ts
 
 negation-positive : (p c : ℕ) → 0 < c → c < p → negation_mod p c ≡ p - c

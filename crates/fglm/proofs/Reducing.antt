@@ -1,10 +1,11 @@
 -- The loop of `residual`: what is left of v, less one row a turn.
 --   Reducing p s v x₀ x i   x is x₀ less the first i rows times v's entries at their pivots
+--   reducing-start          before the first turn
 --   reducing-turn           a turn subtracts row i
 --   reducing-skip           or passes it over where the entry is zero
 --   reducing-is             so it is of what is equal to x
 --   reducing-stop           after the last turn
-use mathlib.Core.Path.{◌≡◌, sym, ◌∙◌, ap, subst}
+use mathlib.Core.Path.{◌≡◌, refl, sym, ◌∙◌, ap, subst}
 use mathlib.Core.List.{[], ◌∷◌}
 use Prim.Native.Nat.{ℕ, suc, ◌+◌, ◌<◌, ◌≤◌}
 use native.Mathlib.Numerals.{add-one}
@@ -45,6 +46,9 @@ pub reducing-is : {p : ℕ} {s : Rows} {v : Coordinates} {x₀ x y : AugmentedVe
 reducing-is {p} {s} {v} {x₀} {i = i} e r = subst (λ z. Reducing p s v x₀ z i) (sym e) r
 
 module _ {p : ℕ} {s : Rows} {v : Coordinates} {x₀ : AugmentedVector} where
+  pub reducing-start : SoundVector p x₀ → Reducing p s v x₀ x₀ 0
+  reducing-start sound = record { within = omega arith; sound = sound; left = λ h field. refl }
+
   pub reducing-turn : {x y : AugmentedVector} {i c : ℕ} → Reducing p s v x₀ x i → i < s.used → s.used ≤ length s.rows
       → c ≡ coordinate v (row_at s i).pivot → LessMultiple p x c (row_at s i).row y → Reducing p s v x₀ y (i + 1)
   reducing-turn {x} {y} {i} {c} r l m e q = record {

@@ -1,6 +1,6 @@
 -- `convert_basis` meets its contract (proofs/Converting.antt).
 use mathlib.Core.Path.{◌≡◌, ◌∙◌, ap}
-use Rattle.convert.proofs.Converting.{enumerates, finished-basis}
+use Rattle.convert.proofs.Converting.{enumerates, to-print, finished-basis}
 use Rattle.convert.proofs.convert_basis.Goals.{After-new-reciprocals}
 use Rattle.convert.proofs.convert_basis.Goals as goal
 
@@ -12,6 +12,11 @@ pub enumerate-requires : goal.enumerate-requires
 enumerate-requires c =
     let given = c.requires in
     enumerates _ _ _ given _ (same (goal.at.enumerate-requires c).After-new-reciprocals) _ (c.x1_to_xn.ensures _ given.variables.most)
+
+pub finish-requires : goal.finish-requires
+finish-requires c =
+    let given = c.requires in
+    to-print _ _ _ given _ (same (goal.at.finish-requires c).After-new-reciprocals) _ (c.x1_to_xn.ensures _ given.variables.most) _ c.enumerate.ensures
 
 pub returns : goal.returns
 returns c =

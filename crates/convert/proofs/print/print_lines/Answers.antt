@@ -5,7 +5,7 @@ use lib.ListN.{length}
 use Rattle.tabtext.specs.Printed.{generator_line}
 use Rattle.tabtext.proofs.Separators.{StandsAt}
 use Rattle.convert.specs.LexText.{generator_lines}
-use Rattle.convert.proofs.LineSequence.{printing-lines-room, printing-lines-turn, printing-lines-end, counting-lines-turn, counting-lines-end}
+use Rattle.convert.proofs.LineSequence.{printing-lines-start, printing-lines-room, printing-lines-turn, printing-lines-end, counting-lines-start, counting-lines-turn, counting-lines-end}
 use Rattle.convert.proofs.LinePlaces.{poly_lines-length, line-stands}
 use Rattle.convert.proofs.print.print_lines.Goals.{After-deref, After-loop-g}
 use Rattle.convert.proofs.print.print_lines.Goals as goal
@@ -13,6 +13,9 @@ use Rattle.convert.proofs.print.print_lines.Goals as goal
 -- The line that is read.
 stands : (g : _) (c : After-deref g) → StandsAt (generator_lines c.args.n c.args.lines.now) c.loop-g.g-index (generator_line c.args.n c.deref.result.now)
 stands g c = line-stands c.args.n c.args.lines.now c.loop-g.g-index c.loop-g-test.true c.g-item.is c.deref.ensures.0
+
+pub loop-g-init : goal.loop-g-init
+loop-g-init g c = (printing-lines-start g.met.S.Sink.laws c.requires, counting-lines-start _ _)
 
 pub print_generator-requires : goal.print_generator-requires
 print_generator-requires g c = printing-lines-room g.met.S.Sink.laws c.loop-g.invariant.0 _ (stands g (goal.at.print_generator-requires g c).After-deref)

@@ -1,6 +1,6 @@
 -- `Rows::insert` meets its contract. The loop's invariant: the first i rows are cleared, the others are as they came.
 use Prim.Native.Nat.{◌≤◌}
-use mathlib.Core.Path.{◌≡◌, sym, subst}
+use mathlib.Core.Path.{◌≡◌, refl, sym, subst}
 use native.Mathlib.Omega.{arith}
 use borrow.Author.Rules.{rules}
 use lib.ListN.{length}
@@ -8,7 +8,7 @@ use Rattle.lists.proofs.Elements.{length-mapped}
 use Rattle.lines.specs.Sizes.{most_standard}
 use Rattle.fglm.specs.RowState.{row_at, SoundRow}
 use Rattle.fglm.proofs.RowSteps.{cleared-none}
-use Rattle.fglm.proofs.Clearing.{clearing-row, clearing-turn, clearing-skip, clearing-is}
+use Rattle.fglm.proofs.Clearing.{clearing-start, clearing-row, clearing-turn, clearing-skip, clearing-is, clearing-stop}
 use Rattle.fglm.proofs.elimination.Rows.insert.Goals.{In-loop-i, Start, then-c-ne0, else-c-ne0}
 use Rattle.fglm.proofs.elimination.Rows.insert.Goals as goal
 
@@ -24,6 +24,9 @@ sound c =
     let (rows, _, _) = c.requires in
     subst (SoundRow _) (sym (clearing-row c.loop-i.invariant)) (rows.rows c.loop-i.i c.loop-i-test.true)
 
+pub loop-i-init : goal.loop-i-init
+loop-i-init c = clearing-start
+
 pub loop-i-preserved : goal.loop-i-preserved
 loop-i-preserved c =
     let (_, q, _) = c.requires in
@@ -34,3 +37,6 @@ loop-i-preserved c =
           clearing-is w.self-is
           (clearing-skip c.loop-i.invariant c.loop-i-test.true (cleared-none c.args.field.prime.prime.above_one q (sound (goal.at.loop-i-preserved c).In-loop-i) w.if-c-ne0.false))
     ]
+
+pub returns : goal.returns
+returns c = record { others = c.loop-i.self; cleared = clearing-stop c.loop-i.invariant (omega arith); is = refl }

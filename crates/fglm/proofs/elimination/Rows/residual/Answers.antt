@@ -8,7 +8,7 @@ use borrow.Author.Rules.{rules}
 use Rattle.lists.proofs.Elements.{length-mapped}
 use Rattle.lines.specs.Sizes.{most_standard}
 use Rattle.fglm.specs.RowState.{no_row, row_at}
-use Rattle.fglm.proofs.Reducing.{reducing-turn, reducing-skip, reducing-is, reducing-stop}
+use Rattle.fglm.proofs.Reducing.{reducing-start, reducing-turn, reducing-skip, reducing-is, reducing-stop}
 use Rattle.fglm.proofs.elimination.Rows.residual.Goals.{In-loop-r, Start, then-c-ne0, else-c-ne0}
 use Rattle.fglm.proofs.elimination.Rows.residual.Goals as goal
 
@@ -25,6 +25,9 @@ used c = omega (arith, length-take-le c.args.self.used c.args.self.rows (full (g
 -- It is the row r.
 is : (c : In-loop-r) → get_or (take c.args.self.used c.args.self.rows) c.loop-r.r-index no_row ≡ row_at c.args.self c.loop-r.r-index
 is c = get_or-take c.args.self.used c.args.self.rows c.loop-r.r-index no_row (used c)
+
+pub loop-r-init : goal.loop-r-init
+loop-r-init c = reducing-start (search (length-mapped, rules))
 
 pub loop-r-preserved : goal.loop-r-preserved
 loop-r-preserved c =
