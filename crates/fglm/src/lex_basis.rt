@@ -5,7 +5,7 @@ use lines::sizes::MAX_LINES;
 use staircase::irreducible::Irreducibles;
 
 // The lines and the standard monomials, both in rising order.
-#[derive(Default, Drop)]
+#[derive(Clone, Default, Drop)]
 pub struct LexBasis {
     pub lines: ArrayVec<Generator, MAX_LINES>,
     pub standard: Irreducibles,
