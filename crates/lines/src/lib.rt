@@ -1,8 +1,9 @@
 // A basis in memory: its modulus, its number of variables, and its lines.
 //
-//   sizes   the sizes of a basis
-//   line    a line and its terms
-//   store   a line is stored
+//   sizes         the sizes of a basis
+//   inline_list   a list whose elements lie in the value itself
+//   line          a line and its terms
+//   store         a line is stored
 #![tactic(auto)]
 
 use crate::line::Generator;
@@ -10,12 +11,13 @@ use crate::sizes::MAX_LINES;
 use arrayvec::ArrayVec;
 use monomial::count::Variables;
 
+pub mod inline_list;
 pub mod line;
 pub mod sizes;
 pub mod store;
 
 // The modulus, the number of variables, and the lines of a basis. A function that works on terms takes p and n apart: residues ask for the one, monomials for the other.
-#[derive(Default, Drop)]
+#[derive(Clone, Default, Drop)]
 pub struct StoredBasis {
     pub p: u16,
     pub n: Variables,

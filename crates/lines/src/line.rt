@@ -1,9 +1,9 @@
 // A line of a basis.
 ghost use Rattle.std.specs.Prelude.{◌≡◌};
-ghost use Rattle.lines.specs.LineTerms.{monomial_at};
+ghost use Rattle.lines.specs.LineTerms.{no_term, monomial_at};
 
+use crate::inline_list::{Blank, InlineList};
 use crate::sizes::MAX_TERMS;
-use arrayvec::ArrayVec;
 use monomial::Monomial;
 use residue::Residue;
 
@@ -14,8 +14,19 @@ pub struct LineTerm {
     pub monomial: Monomial,
 }
 
+impl Blank for LineTerm {
+    ghost blank = { no_term };
+
+    fn blank() -> Self {
+        LineTerm {
+            coefficient: Residue::ZERO,
+            monomial: Monomial::one(),
+        }
+    }
+}
+
 // A monic line: its terms, greatest first.
-pub type Generator = ArrayVec<LineTerm, MAX_TERMS>;
+pub type Generator = InlineList<LineTerm, MAX_TERMS>;
 
 // The leading monomial of a line; 1 if it has no terms.
 pub fn lead(g: &[LineTerm]) -> Monomial

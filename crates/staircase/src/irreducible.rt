@@ -8,13 +8,13 @@ ghost use Rattle.staircase.specs.Listed.{listed};
 
 use crate::leads::multiple;
 use crate::next::next;
-use arrayvec::ArrayVec;
+use lines::inline_list::InlineList;
 use lines::sizes::MAX_STANDARD;
 use monomial::Monomial;
 use monomial::count::Variables;
 use monomial::order::x1_to_xn;
 
-pub type Irreducibles = ArrayVec<Monomial, MAX_STANDARD>;
+pub type Irreducibles = InlineList<Monomial, MAX_STANDARD>;
 
 // The list of them, or None: there are more than MAX_STANDARD.
 pub fn list_irreducibles(leads: &[Monomial], n: Variables) -> Option<Irreducibles>

@@ -3,14 +3,14 @@ ghost use Rattle.std.specs.Prelude.{◌≡◌};
 ghost use Rattle.monomial.specs.Represented.{row};
 ghost use Rattle.staircase.specs.Leads.{lead_monomials, leads_in, multiple};
 
-use arrayvec::ArrayVec;
 use lines::StoredBasis;
+use lines::inline_list::InlineList;
 use lines::line::lead;
 use lines::sizes::MAX_LINES;
 use monomial::Monomial;
 use monomial::count::Variables;
 
-pub type Leads = ArrayVec<Monomial, MAX_LINES>;
+pub type Leads = InlineList<Monomial, MAX_LINES>;
 
 // The leading monomials of the lines of a basis.
 pub fn leads_of(basis: &StoredBasis) -> Leads

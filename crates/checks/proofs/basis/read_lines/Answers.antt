@@ -1,15 +1,20 @@
 -- `read_lines` meets its contract (proofs/LinesLoop.antt).
-use lib.ListN.{length}
+use mathlib.Core.Path.{◌≡◌}
+use mathlib.Core.List.{List}
+use Prim.Native.Nat.{ℕ}
+use Rattle.std.proofs.Common.{rules, Some}
 use Rattle.std.proofs.lemmas.Result.{err_from_is_err_and}
-use Rattle.checks.specs.Answers.{PassedLine}
-use Rattle.checks.proofs.LinesLoop.{start, turn, stop, stop-refused}
+use Rattle.arrayvec.specs.ArrayVec.{ArrayVec}
+use Rattle.lines.specs.Stored.{LinePut}
+use Rattle.lines.specs.declared.line.LineTerm.{LineTerm}
+use Rattle.checks.proofs.LinesLoop.{LinesInv, start, turn, stop, stop-refused}
 use Rattle.checks.proofs.basis.read_lines.Goals.{In-Some}
 use Rattle.checks.proofs.basis.read_lines.Goals as goal
 
--- What is said of a line that passes.
-says : (c : In-Some) → let a = c.args in let l = c.loop-g in
-    PassedLine a.p a.n (length l.lines.items) a.text.now l.at c.in-Some.next c.in-Some.g.items
-says c = rw (c.in-Some.is, c.len.ensures.value) at c.in_ok-g.ensures
+-- What holds after a line that passes.
+passed : (c : In-Some) → let a = c.args in let l = c.loop-g in
+    (g : ArrayVec LineTerm) (next : ℕ) → c.in_ok-g.field-0 ≡ Some (g, next) → (ls : List (ArrayVec LineTerm)) → LinePut l.lines.items g ls → LinesInv a.p a.n a.text.now a.start ls next
+passed c g next e ls put = turn _ _ _ _ _ _ c.loop-g.invariant ls next g put (rw (e, c.len.ensures.value) at c.in_ok-g.ensures)
 
 pub loop-g-init : goal.loop-g-init
 loop-g-init c = rw c.requires (start _ _ _ _)
@@ -20,7 +25,7 @@ returns-in_err-g c =
     rw (e.1, e.2) (stop-refused _ _ _ _ _ _ c.loop-g.invariant _ (rw c.len.ensures.value at c.in_err-g.ensures))
 
 pub loop-g-preserved : goal.loop-g-preserved
-loop-g-preserved c = turn _ _ _ _ _ _ c.loop-g.invariant _ _ _ c.put_line.ensures.put (says (goal.at.loop-g-preserved c).In-Some)
+loop-g-preserved c = let put = c.put_line.ensures.put in search (rules, put, passed (goal.at.loop-g-preserved c).In-Some)
 
 pub returns : goal.returns
 returns c = stop _ _ _ _ _ _ c.loop-g.invariant (rw (c.in_default.is, c.len.ensures.value) at c.in_ok-g.ensures)
