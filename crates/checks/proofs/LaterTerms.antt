@@ -13,7 +13,7 @@
 --   refused         a term is refused
 use Prim.Native.Nat.{ℕ, suc, ◌+◌, ◌≤◌, ◌<◌}
 use mathlib.Core.Path.{◌≡◌, refl, ap, sym, ◌∙◌}
-use mathlib.Core.List.{List, [], ◌∷◌, ◌++◌, append_assoc, append-nil, map-append}
+use mathlib.Core.List.{List, [], ◌∷◌, ◌++◌, append_assoc, append-nil}
 use mathlib.Core.Bool.{true, false, false≢true}
 use mathlib.Core.Option.{Option, none, some}
 use native.Mathlib.Numerals.{add-one}
@@ -22,7 +22,6 @@ use lib.ListN.{length, take, drop, length-append}
 use lib.Seq.{drop-drop, length-take-le}
 use Rattle.arrayvec.specs.ArrayVec.{ArrayVec}
 use Rattle.lists.specs.Lists.{Bytes}
-use Rattle.lists.proofs.EachElement.{each_last}
 use Rattle.monomial.specs.Represented.{row}
 use Rattle.monomial.specs.declared.Monomial.{Monomial}
 use Rattle.monomial.proofs.Places.{row-monomial}
@@ -35,6 +34,7 @@ use Rattle.lines.specs.LineTerms.{exponents_of, term_of, terms_in}
 use Rattle.lines.specs.Bases.{Padded, PaddedLine}
 use Rattle.lines.specs.declared.line.LineTerm.{LineTerm}
 use Rattle.lines.proofs.AsRow.{as_row-exponents, padded-monomial}
+use Rattle.lines.proofs.OneMoreTerm.{terms-append, held-longer}
 use Rattle.tabtext.specs.Readers.{got, bad, starts_with, read_term}
 use Rattle.tabtext.specs.Answers as answers
 use Rattle.tabtext.specs.declared.terms.RawTerm.{RawTerm}
@@ -73,11 +73,6 @@ pub record NextTerm (p n : ℕ) (text : Bytes) (j : ℕ) (last : Monomial) (at i
   pub tab : starts_with 9 (drop at text) ≡ true
   pub reads : answers.TermSays n text (at + 1) (Some (term, i))
   pub says : (b : Term) → as_row n b.1 ≡ row n last → check_next p n (j + 1) b (term.coefficient, take n term.row) pass o
-
--- One more term, as numbers.
-terms-more : (n : ℕ) (g : List LineTerm) (u : LineTerm) → terms_in n (g ++ (u ∷ [])) ≡ terms_in n g ++ (term_of n u ∷ [])
-unfolding terms_in
-terms-more n g u = map-append (term_of n) g (u ∷ [])
 
 module _ (p n : ℕ) (text : Bytes) (first : LineTerm) where
   -- The terms `all` after the first, which was read as before₀: what is left of them at the place `at`, after those of g.
@@ -135,7 +130,7 @@ module _ (p n : ℕ) (text : Bytes) (first : LineTerm) where
           turn {u} h k =
               let count : length (g ++ (u ∷ [])) ≡ suc (length g) = length-append g (u ∷ []) ∙ add-one _ in
               record {
-                held = (omega (arith, room, count), each_last (λ (x : LineTerm). Padded n x.monomial) g inv.held.1 (padded-monomial n _ k.monomial));
+                held = held-longer n g u room inv.held (padded-monomial n _ k.monomial);
                 rest = λ all before a b.
                     let r = inv.rest all before a b in
                     let q = next-term n text at r.left r.ahead next.tab next.reads.reads in
@@ -144,7 +139,7 @@ module _ (p n : ℕ) (text : Bytes) (first : LineTerm) where
                       before = t;
                       ahead = q.ahead;
                       holds = sym (rw k.monomial (row-monomial n _));
-                      terms = rw (terms-more, append_assoc, kept p n t k good (length-take-le n term.row h)) (rw q.cons at r.terms);
+                      terms = rw (terms-append, append_assoc, kept p n t k good (length-take-le n term.row h)) (rw q.cons at r.terms);
                       checks = λ o d. r.checks o (rw q.cons (next-passed p n (suc (length g)) r.before t (rw add-one at (next.says r.before r.holds)) (rw count at d)));
                     };
               }

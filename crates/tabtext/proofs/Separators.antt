@@ -1,6 +1,9 @@
 -- What is printed, as its first part and then each later field with the separator before it.
 --   StandsAt l j x      x stands at place j of the list
 --   stands_at           what a list has at a place stands there
+--   after_more          the field at a place, and those after it
+--   after-width         their number of bytes
+--   after_none          past the last field nothing is left
 --   fields_from         the fields from a place on, each with the separator before it, and what comes after them
 --   fields_more         the field at a place, and the later ones
 --   fields_none         past the last field, what comes after them
@@ -16,11 +19,11 @@
 --   counted-parts       a word, a tab, a number and LF
 --   points-counted      a runs line
 --   end-counted         an end line
-use Prim.Native.Nat.{ℕ, ◌+◌, ◌≤◌, ◌<◌}
+use Prim.Native.Nat.{ℕ, suc, ◌+◌, ◌≤◌, ◌<◌}
 use mathlib.Core.Path.{◌≡◌, refl, ap, ◌∙◌}
 use mathlib.Core.List.{List, [], ◌∷◌, ◌++◌, map, map-map, append_assoc, append-nil}
 use native.Mathlib.Numerals.{add-one}
-use lib.ListN.{length, get_or, drop, drop_of_length-le}
+use lib.ListN.{length, get_or, drop, length-append, drop_of_length-le}
 use lib.Seq.{drop-cons}
 use Rattle.lists.specs.Lists.{Bytes}
 use Rattle.lines.specs.Terms.{Term}
@@ -39,18 +42,29 @@ StandsAt l j x = drop j l ≡ x ∷ drop (j + 1) l
 pub stands_at : {A : Type 0} (l : List A) (j : ℕ) (x d : A) → x ≡ get_or l j d → j < length l → StandsAt l j x
 stands_at l j x d e h = rw (drop-cons l j d, add-one, e)
 
+module _ {A : Type 0} (show : A → Bytes) (sep : ℕ) (l : List A) (j : ℕ) where
+  pub after_more : (x : A) → StandsAt l j x → each_after sep (map show (drop j l)) ≡ (sep ∷ show x) ++ each_after sep (map show (drop (j + 1) l))
+  unfolding each_after
+  after_more x s = rw s
+
+  pub after-width : (x : A) → StandsAt l j x →
+      length (each_after sep (map show (drop j l))) ≡ suc (length (show x)) + length (each_after sep (map show (drop (j + 1) l)))
+  after-width x s = ap length (after_more x s) ∙ length-append (sep ∷ show x) (each_after sep (map show (drop (j + 1) l)))
+
+  pub after_none : length l ≤ j → each_after sep (map show (drop j l)) ≡ []
+  unfolding each_after
+  after_none h = rw (drop_of_length-le l h)
+
 -- The fields from place j on, each with the separator before it, and what comes after them.
 abbrev pub fields_from : {A : Type 0} → (A → Bytes) → ℕ → List A → Bytes → ℕ → Bytes
 fields_from show sep l more j = each_after sep (map show (drop j l)) ++ more
 
 module _ {A : Type 0} (show : A → Bytes) (sep : ℕ) (l : List A) (more : Bytes) (j : ℕ) where
   pub fields_more : (x : A) → StandsAt l j x → fields_from show sep l more j ≡ sep ∷ (show x ++ fields_from show sep l more (j + 1))
-  unfolding each_after
-  fields_more x s = rw (s, append_assoc)
+  fields_more x s = rw (after_more show sep l j x s, append_assoc)
 
   pub fields_none : length l ≤ j → fields_from show sep l more j ≡ more
-  unfolding each_after
-  fields_none h = rw (drop_of_length-le l h)
+  fields_none h = rw (after_none show sep l j h)
 
 pub exponents-none : dotted [] ≡ []
 unfolding dotted
