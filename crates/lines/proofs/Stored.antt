@@ -4,15 +4,16 @@
 --   terms-put       those of a line that is put at a place stand there, and the others are as they were
 --   lines-put       a line that is pushed stands whole at the place behind the others, and every other place holds what it held
 --   line-appended   so the lines are the others and it
+--   lines-set       a line that is set at a place of the list stands whole there, and every other place holds what it held
 use mathlib.Core.Path.{◌≡◌, refl, ap, sym, ◌∙◌}
 use mathlib.Core.List.{List, [], ◌∷◌, ◌++◌, map-append}
 use mathlib.Core.Logic.{⊎_elim}
-use Prim.Native.Nat.{ℕ, zero, suc}
+use Prim.Native.Nat.{ℕ, zero, suc, ◌<◌}
 use native.Mathlib.Omega.{arith}
-use lib.ListN.{length, get_or, set, length-map, length-append}
+use lib.ListN.{length, get_or, set, length-map, length-append, length-set}
 use lib.Seq.{get_or-append_seam}
 use Rattle.std.proofs.lemmas.Bool.{cases_eq}
-use Rattle.std.proofs.lemmas.List.{same_lists}
+use Rattle.std.proofs.lemmas.List.{same_lists, get_or-set_same, get_or-set_other}
 use Rattle.arrayvec.specs.ArrayVec.{ArrayVec}
 use Rattle.lines.specs.LineTerms.{terms_in, terms_of_lines}
 use Rattle.lines.specs.Stored.{LinePut}
@@ -55,3 +56,8 @@ module _ (ls : List (ArrayVec LineTerm)) (g : ArrayVec LineTerm) (ls' : List (Ar
       same_lists ls' (ls ++ (g ∷ [])) (omega (arith, put.count, length-append ls (g ∷ []))) (λ k d h. ⊎_elim
       (λ e. ap (λ i. get_or ls' i d) e ∙ put.own d ∙ sym (get_or-append_seam ls g [] d) ∙ ap (λ i. get_or (ls ++ (g ∷ [])) i d) (sym e))
       (λ n. put.others k d n ∙ sym (other g d ls k n)) (cases_eq k (length ls)))
+
+pub lines-set : (ls : List (ArrayVec LineTerm)) (k : ℕ) (g : ArrayVec LineTerm) → k < length ls → (length (set ls k g) ≡ length ls)
+    × ((d : ArrayVec LineTerm) → get_or (set ls k g) k d ≡ g)
+    × ((j : ℕ) (d : ArrayVec LineTerm) → ¬ (j ≡ k) → get_or (set ls k g) j d ≡ get_or ls j d)
+lines-set ls k g lt = (length-set ls k g, λ d. get_or-set_same ls k g d lt, λ j d n. get_or-set_other ls k j g d n)
