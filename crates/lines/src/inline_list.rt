@@ -2,7 +2,7 @@
 //
 //   Blank        an element that stands in each place without one
 //   InlineList   a list of at most CAP elements
-ghost use Rattle.std.specs.Prelude.{◌≡◌, ◌+◌, ◌<◌, ◌≤◌, ⊤, List, [], ◌∷◌, ◌++◌, length, insert};
+ghost use Rattle.std.specs.Prelude.{◌≡◌, ◌+◌, ◌-◌, ◌<◌, ◌≤◌, ⊤, List, [], ◌∷◌, ◌++◌, length, take, insert};
 ghost use Rattle.arrayvec.specs.ArrayVec.{array_vec_len};
 ghost use Rattle.monomial.specs.Sizes.{most_variables};
 ghost use Rattle.monomial.specs.Rows.{one};
@@ -85,11 +85,24 @@ impl<T: Blank, const CAP: usize> InlineList<T, CAP> {
         self.count = count + 1;
     }
 
+    // The first `count` of the elements, or all of them.
+    pub fn truncate(&mut self, count: usize)
+        ensures items { self.new.items ≡ take count self.old.items }
+        ensures len { array_vec_len self.new + (array_vec_len self.old - count) ≡ array_vec_len self.old }
+    {
+        if count < self.count {
+            let places = &mut self.places[..];
+            let blanks = &[T::blank(); CAP][..];
+            places[count..].copy_from_slice(&blanks[count..]);
+            self.count = count;
+        }
+    }
+
     // No element any more.
     pub fn clear(&mut self)
         ensures { self.new.items ≡ [] }
     {
-        *self = InlineList::new();
+        self.truncate(0);
     }
 
     // One element more, at `index`: those from there on come behind it. There must be room.
