@@ -11,9 +11,10 @@ use Rattle.checks.proofs.LinesLoop.{LinesInv, start, turn, stop, stop-refused}
 use Rattle.checks.proofs.basis.read_lines.Goals.{In-Some}
 use Rattle.checks.proofs.basis.read_lines.Goals as goal
 
--- What holds after a line that passes.
+-- What holds after a line that passes and is stored.
 passed : (c : In-Some) → let a = c.args in let l = c.loop-g in
-    (g : ArrayVec LineTerm) (next : ℕ) → c.in_ok-g.field-0 ≡ Some (g, next) → (ls : List (ArrayVec LineTerm)) → LinePut l.lines.items g ls → LinesInv a.p a.n a.text.now a.start ls next
+    (g : ArrayVec LineTerm) (next : ℕ) → c.in_ok-g.field-0 ≡ Some (g, next)
+    → (ls : List (ArrayVec LineTerm)) → LinePut l.lines.items g ls → LinesInv a.p a.n a.text.now a.start ls next
 passed c g next e ls put = turn _ _ _ _ _ _ c.loop-g.invariant ls next g put (rw (e, c.len.ensures.value) at c.in_ok-g.ensures)
 
 pub loop-g-init : goal.loop-g-init
@@ -25,7 +26,7 @@ returns-in_err-g c =
     rw (e.1, e.2) (stop-refused _ _ _ _ _ _ c.loop-g.invariant _ (rw c.len.ensures.value at c.in_err-g.ensures))
 
 pub loop-g-preserved : goal.loop-g-preserved
-loop-g-preserved c = let put = c.put_line.ensures.put in search (rules, put, passed (goal.at.loop-g-preserved c).In-Some)
+loop-g-preserved c = search (rules, passed (goal.at.loop-g-preserved c).In-Some)
 
 pub returns : goal.returns
 returns c = stop _ _ _ _ _ _ c.loop-g.invariant (rw (c.in_default.is, c.len.ensures.value) at c.in_ok-g.ensures)
