@@ -1,10 +1,12 @@
 -- The loop of `read_lines`, over plain lists.
 --   LinesInv       what holds at the loop's head: the lines that are left decide
 --   start, turn    it holds where the loop begins, and again after a poly line that passes
+--   stored-behind  a line that is stored at the place behind the others
 --   lines-room     a poly line that passes has room
 --   stop           the end line passes, and so do all lines
 --   stop-refused   a line is refused, and so are the lines
 use Prim.Native.Nat.{ℕ, suc, ◌≤◌, ◌<◌}
+use mathlib.Core.Path.{◌≡◌}
 use mathlib.Core.List.{List, [], ◌∷◌}
 use mathlib.Core.Logic.{⊎_elim}
 use mathlib.Core.Option.{none}
@@ -22,12 +24,15 @@ use Rattle.lines.specs.LineTerms.{terms_in, terms_of_lines}
 use Rattle.lines.specs.Bases.{PaddedLine, generators_in}
 use Rattle.lines.specs.Stored.{LinePut}
 use Rattle.lines.specs.declared.line.LineTerm.{LineTerm}
-use Rattle.lines.proofs.Stored.{held-length, line-appended}
+use Rattle.lines.proofs.Stored.{held-length, lines-pushed, line-appended}
 use Rattle.checks.specs.Checks.{check_generator, Remaining, generator_passed}
 use Rattle.checks.specs.Checks as checks
 use Rattle.checks.specs.Answers.{basis_of, Stops, PassedLine, LinesSays}
 use Rattle.checks.proofs.Sequence.{none-not-some}
 use Rattle.std.specs.Prelude.{Ok, Err}
+
+pub stored-behind : {ls : List (ArrayVec LineTerm)} {k : ℕ} {g : ArrayVec LineTerm} {ls' : List (ArrayVec LineTerm)} → LinePut ls k g ls' → k ≡ length ls → LinePut ls (length ls) g ls'
+stored-behind put e = rw e at put
 
 generator-room : (p n k : ℕ) (terms : List Term) → check_generator p n k terms none → k ≤ most_lines
 generator-room p n k [] c = none-not-some c
@@ -47,11 +52,11 @@ module _ (p n : ℕ) (text : Bytes) (begin : ℕ) where
     pub lines-room : (i : ℕ) (g : List LineTerm) → PassedLine p n (length ls) text at i g → length ls < most_lines
     lines-room i g h = omega (arith, generator-room p n (suc (length ls)) (terms_in n g) h.passes)
 
-    pub turn : (ls' : List (ArrayVec LineTerm)) (i : ℕ) (g : ArrayVec LineTerm) → LinePut ls g ls' → PassedLine p n (length ls) text at i g.items → LinesInv ls' i
+    pub turn : (ls' : List (ArrayVec LineTerm)) (i : ℕ) (g : ArrayVec LineTerm) → LinePut ls (length ls) g ls' → PassedLine p n (length ls) text at i g.items → LinesInv ls' i
     turn ls' i g put h = record {
-      most = omega (arith, lines-room i g.items h, put.count);
+      most = omega (arith, lines-room i g.items h, put.count.1 (omega arith));
       padded = rw (line-appended ls g ls' put) (each_last (λ l. PaddedLine n l.items) ls inv.padded h.padded);
-      rest = λ o q. inv.rest o (generator_passed h.front (rw (held-length n ls) h.passes) (rw (put.terms n) at q));
+      rest = λ o q. inv.rest o (generator_passed h.front (rw (held-length n ls) h.passes) (rw (line-appended ls g ls' put, lines-pushed n ls g) at q));
     }
 
     pub stop : Stops p n (length ls) (drop at text) (Ok tt) → LinesSays p n (drop begin text) (Ok tt) (record { items = ls })

@@ -71,7 +71,7 @@ fn read_lines(
 {
     let mut at = start;
     while let Some((g, next)) = read_line(text, at, p, n, lines.len())? {
-        put_line(lines, g);
+        put_line(lines, lines.len(), g);
         at = next;
     }
     Ok(())

@@ -21,8 +21,8 @@ fn print_lines<S: Sink>(sink: &mut S, lines: &[Generator], n: Variables)
     ensures printed { sink.new ≡ S.after sink.old (text (generator_lines n lines.now)) }
     ensures short { length (text (generator_lines n lines.now)) ≤ (5 + 31 * most_terms) * length lines.now }
 {
-    for g in lines {
-        print_generator(&mut *sink, g, n);
+    for j in 0..lines.len() {
+        print_generator(&mut *sink, &lines[j], n);
     }
 }
 

@@ -10,11 +10,13 @@
 --   PlacedTerms       the terms of minus a combination, by the places of its coefficients
 --   LineTerms         the terms of the line of a dependent monomial
 --   PushedMonomials   a list of monomials with one more
+--   FirstMonomials    the standard monomials found so far
 --   StandardRanks     the ranks of the standard monomials
 --   RowImages         the rules that `image_of` goes by
 --   NormalImages      the rows of the code as images of monomials
 --   WrittenMore       lines in the order of a list of monomials, and one monomial more
 --   Visits            the visits of the enumeration
+--   ToldNumbers       the calls that are told the number of variables
 --   EnumerationLoop   the loop of `enumerate`
 --   BasisLines        the enumeration for the lines of a basis of the code
 pub mod Residues
@@ -28,10 +30,12 @@ pub mod Promise
 pub mod PlacedTerms
 pub mod LineTerms
 pub mod PushedMonomials
+pub mod FirstMonomials
 pub mod StandardRanks
 pub mod RowImages
 pub mod NormalImages
 pub mod WrittenMore
 pub mod Visits
+pub mod ToldNumbers
 pub mod EnumerationLoop
 pub mod BasisLines

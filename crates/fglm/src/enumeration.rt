@@ -9,13 +9,14 @@ use crate::line::line_of;
 use arrayvec::ArrayVec;
 use coordinates::Coordinates;
 use lines::sizes::MAX_STANDARD;
-use lines::store::put_line;
+use lines::store::{put, put_line};
 use monomial::Monomial;
 use monomial::count::Variables;
 use monomial::order::Ranking;
 use monomial::rank::rank;
 use multiplication::rows::Tables;
 use residue::reciprocals::Reciprocals;
+use staircase::irreducible::Irreducibles;
 use staircase::leads::Leads;
 use staircase::next::next;
 
@@ -33,7 +34,9 @@ pub fn enumerate(
     ensures { Enumerated reciprocals n (take n ranking.variables) irreducibles.now tables.now lex.new }
 {
     lex.lines.clear();
-    lex.standard.clear();
+    // The standard monomials found so far are the first `count` of the list, which is cut to them at the end.
+    lex.standard = Irreducibles::blanks(MAX_STANDARD);
+    let mut count: usize = 0;
     let field = reciprocals.field;
     // Images, ranks and standard monomials stand in lists beside each other: the ranks are sought as numbers, and the lines and the answer take the monomials alone.
     let mut rows = Rows::none();
@@ -47,7 +50,7 @@ pub fn enumerate(
             &images,
             &ranks,
             v,
-            &lex.standard,
+            &lex.standard[..count],
             irreducibles,
             field,
             n,
@@ -56,16 +59,19 @@ pub fn enumerate(
         let Some(pivot) = x.found() else {
             put_line(
                 &mut lex.lines,
-                line_of(v, x.dependence(field), &lex.standard, field.p, n),
+                leads.len(),
+                line_of(v, x.dependence(field), &lex.standard[..count], field.p, n),
             );
             leads.push(v);
             m = next(&leads, v, ranking, n);
             continue;
         };
         rows = rows.insert(x.scaled(pivot, reciprocals), field);
-        images.push(w);
-        ranks.push(rank(v, n));
-        lex.standard.push(v);
+        put(&mut images, count, w);
+        put(&mut ranks, count, rank(v, n));
+        lex.standard.set(count, v);
+        count += 1;
         m = next(&leads, v, ranking, n);
     }
+    lex.standard.truncate(count);
 }

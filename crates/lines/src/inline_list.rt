@@ -2,7 +2,7 @@
 //
 //   Blank        an element that stands in each place without one
 //   InlineList   a list of at most CAP elements
-ghost use Rattle.std.specs.Prelude.{◌≡◌, ◌+◌, ◌-◌, ◌<◌, ◌≤◌, ⊤, List, [], ◌∷◌, ◌++◌, length, take, insert};
+ghost use Rattle.std.specs.Prelude.{◌≡◌, ◌+◌, ◌-◌, ◌<◌, ◌≤◌, ⊤, List, [], ◌∷◌, ◌++◌, length, take, insert, replicate, set};
 ghost use Rattle.arrayvec.specs.ArrayVec.{array_vec_len};
 ghost use Rattle.monomial.specs.Sizes.{most_variables};
 ghost use Rattle.monomial.specs.Rows.{one};
@@ -64,6 +64,17 @@ impl<T: Blank, const CAP: usize> InlineList<T, CAP> {
         }
     }
 
+    // A list of blanks.
+    pub fn blanks(count: usize) -> Self
+        requires { count ≤ CAP }
+        ensures { result.items ≡ replicate count T.blank }
+    {
+        InlineList {
+            places: [T::blank(); CAP],
+            count,
+        }
+    }
+
     // The number of elements.
     #[inline]
     pub fn len(&self) -> usize
@@ -83,6 +94,16 @@ impl<T: Blank, const CAP: usize> InlineList<T, CAP> {
         let count = self.count;
         self.places[count] = element;
         self.count = count + 1;
+    }
+
+    // The element at `index` is another, if there is one.
+    #[inline]
+    pub fn set(&mut self, index: usize, element: T)
+        ensures { self.new.items ≡ set self.old.items index element }
+    {
+        if index < self.count {
+            self.places[index] = element;
+        }
     }
 
     // The first `count` of the elements, or all of them.

@@ -4,6 +4,7 @@
 --   DividedAt R 𝓜 G d i      a monomial of the line at place i is divisible by the leading monomial of the line at another place
 --   divided-iff              check 12 by places of the lines
 --   divides-at-place         the test for term k of a line
+--   divides-read             so it says of a term that is read there
 --   divides-term-iff         the test for the terms of a line
 --   divided-by-another-iff   a monomial of a list at another place than i divides one of the line's
 --   divided-of-basis         check 12 by places of the basis
@@ -14,6 +15,7 @@ use mathlib.Core.Logic.{◌↔◌}
 use Prim.Native.Nat.{ℕ, zero, suc, ◌+◌, ◌<◌}
 use native.Mathlib.Omega.{arith}
 use lib.ListN.{length, get_or, length-map, get_or-map}
+use Rattle.std.proofs.lemmas.List.{get_or_default}
 use Rattle.lists.specs.Lists.{◌∈◌}
 use Rattle.lists.proofs.Elements.{at-iff}
 use Rattle.residue.specs.Field.{Arithmetic, ZMod, modulo}
@@ -25,7 +27,7 @@ use Rattle.monomial.specs.declared.Monomial.{Monomial}
 use Rattle.monomial.proofs.Products.{divides-iff}
 use Rattle.groebner.specs.Lines.{Line, polynomial}
 use Rattle.groebner.proofs.Lists.{in_map, of_map}
-use Rattle.lines.specs.LineTerms.{monomial_at}
+use Rattle.lines.specs.LineTerms.{no_term, monomial_at}
 use Rattle.lines.specs.declared.line.LineTerm.{LineTerm}
 use Rattle.lines.specs.declared.StoredBasis.{StoredBasis}
 use Rattle.staircase.specs.StoredLines.{stored_lines}
@@ -91,6 +93,11 @@ module _ {F M : Type 0} (R : Arithmetic F) where
 pub divides-at-place : (n : ℕ) (d : Row n) (g : List LineTerm) (k : ℕ) {t : Bool} → t ≡ divides n d (row n (monomial_at g k))
     → (t ≡ true) ↔ Divides (monomials n) d (row n (monomial_at g k))
 divides-at-place n d g k e = rw e (divides-iff n d _)
+
+pub divides-read : (n : ℕ) (d : Row n) (g : List LineTerm) (k : ℕ) {u : LineTerm} {t : Bool} → t ≡ divides n d (row n u.monomial) → u ≡ get_or g k u → k < length g
+    → t ≡ divides n d (row n (monomial_at g k))
+unfolding monomial_at
+divides-read n d g k {u} e read l = e ∙ ap (λ (v : LineTerm). divides n d (row n v.monomial)) (read ∙ get_or_default g k u no_term l)
 
 pub divides-term-iff : (n : ℕ) (d : Row n) (g : List LineTerm) {t : Bool}
     → (t ≡ true) ↔ ((k : ℕ) × (k < length g) × (divides n d (row n (monomial_at g k)) ≡ true)) → (t ≡ true) ↔ DividesTerm n d g

@@ -1,12 +1,14 @@
 -- Searches among the elements of a list, or the first ones of an array, and tests of all numbers below n.
 --   any-iff      an element of a list passes a test, by places
+--   any-places   it does so too where its places are tried
 --   passes-iff   an element of the first ones passes a test, by places
 --   each-iff     all numbers below n have P
-use mathlib.Core.Path.{◌≡◌, refl, sym, ◌∙◌, ap, subst}
-use mathlib.Core.Bool.{Bool, true, false, false≢true}
-use mathlib.Core.List.{List}
+use mathlib.Core.Path.{◌≡◌, refl, sym, ◌∙◌, ap, ap₂, subst}
+use mathlib.Core.Bool.{Bool, true, false, false≢true, ◌||◌}
+use mathlib.Core.List.{List, [], ◌∷◌}
 use mathlib.Core.Logic.{◌↔◌}
-use Prim.Native.Nat.{ℕ, ◌≤◌, ◌<◌}
+use Prim.Native.Nat.{ℕ, zero, suc, ◌+◌, ◌≤◌, ◌<◌}
+use native.Mathlib.Numerals.{add-one}
 use native.Mathlib.Omega.{arith}
 use lib.ListN.{length, get_or, take}
 use lib.Seq.{length-take-le, get_or-take}
@@ -21,6 +23,14 @@ any-iff p xs d e = (
   λ q. let (j, x, l, s, o) = Any-from_list_any p xs (sym e ∙ q) in (j, omega (arith, l), ap p (get_or_default xs j d x (omega (arith, l)) ∙ s) ∙ o),
   λ (j, l, o). e ∙ list_any_at p xs j d (omega (arith, l)) o,
 )
+
+any-after : (p : ℕ → Bool) (a n : ℕ) → list_any p (range_with_len (a + 1) n) ≡ list_any (λ k. p (suc k)) (range_with_len a n)
+any-after p a zero = refl
+any-after p a (suc n) = ap₂ (λ t u. t || u) (ap p (add-one a)) (any-after p (a + 1) n)
+
+pub any-places : {A : Type 0} (p : A → Bool) (xs : List A) (d : A) → list_any (λ k. p (get_or xs k d)) (range_with_len 0 (length xs)) ≡ list_any p xs
+any-places p [] d = refl
+any-places p (x ∷ xs) d = ap (λ t. p x || t) (any-after (λ k. p (get_or (x ∷ xs) k d)) 0 (length xs) ∙ any-places p xs d)
 
 pub passes-iff : {A : Type 0} (p : A → Bool) (xs : List A) (count : ℕ) (d : A) {t : Bool} → count ≤ length xs → t ≡ list_any p (take count xs)
     → (t ≡ true) ↔ ((j : ℕ) × (j < count) × (p (get_or xs j d) ≡ true))

@@ -1,23 +1,25 @@
 -- The search for one of the monomials of a list that divides m.
 --   multiple-any        what it finds
+--   divides-lead        what the test says of monomial k that is read
 --   Searched n ms m k   the monomials from place k on decide
 --   searched-none       at first all of them do
 --   searched-found      monomial k divides m
 --   searched-more       it does not: those from place k + 1 on decide
 --   searched-all        none is left
-use mathlib.Core.Path.{◌≡◌, refl}
+use mathlib.Core.Path.{◌≡◌, refl, sym, ◌∙◌, ap}
 use mathlib.Core.Bool.{Bool, true, false, ◌||◌}
 use mathlib.Core.List.{List, [], ◌∷◌}
 use Prim.Native.Nat.{ℕ, ◌+◌, ◌≤◌, ◌<◌}
 use native.Mathlib.Omega.{arith}
 use lib.ListN.{length, get_or, drop}
 use Rattle.std.specs.List.{list_any}
-use Rattle.monomial.specs.Rows.{Row}
+use Rattle.std.proofs.lemmas.List.{get_or_default}
+use Rattle.monomial.specs.Rows.{Row, one}
 use Rattle.monomial.specs.Quotients.{divides}
 use Rattle.monomial.specs.Represented.{row}
 use Rattle.monomial.specs.declared.Monomial.{Monomial}
 use Rattle.staircase.specs.Leads.{rows_of, multiple}
-use Rattle.staircase.proofs.ArrayRows.{no_monomial}
+use Rattle.staircase.proofs.ArrayRows.{no_monomial, rows_at}
 use Rattle.staircase.proofs.RowsInTurn.{rows-from, rows_end}
 
 pub multiple-any : (n : ℕ) (m : Row n) (l : List Monomial) → list_any (λ d. divides n (row n d) m) l ≡ multiple n (rows_of n l) m
@@ -28,6 +30,10 @@ multiple-any n m (d ∷ l) = go (divides n (row n d) m) (multiple-any n m l)
     go : (t : Bool) {u v : Bool} → u ≡ v → (t || u) ≡ elim t [ true ↦ true | false ↦ v ]
     go true e = refl
     go false e = e
+
+pub divides-lead : (n : ℕ) (m : Row n) (ms : List Monomial) (k : ℕ) {d : Monomial} {t : Bool} → t ≡ divides n (row n d) m → d ≡ get_or ms k d → k < length ms
+    → t ≡ divides n (get_or (rows_of n ms) k (one n)) m
+divides-lead n m ms k {d} e read l = e ∙ ap (λ (r : Row n). divides n r m) (ap (row n) (read ∙ get_or_default ms k d no_monomial l) ∙ sym (rows_at n ms k))
 
 pub record Searched (n : ℕ) (ms : List Monomial) (m : Row n) (k : ℕ) : Type 0 where
   pub within : k ≤ length ms

@@ -1,6 +1,8 @@
 // Check 12: the smallest line of which a monomial is divisible by another line's leading monomial.
-ghost use Rattle.std.specs.Prelude.{◌≡◌, true, ◌↔◌};
+ghost use Rattle.std.specs.Prelude.{◌≡◌, true, ◌↔◌, ◌<◌, length};
+ghost use Rattle.monomial.specs.Quotients.{divides};
 ghost use Rattle.monomial.specs.Represented.{row};
+ghost use Rattle.lines.specs.LineTerms.{monomial_at};
 ghost use Rattle.staircase.specs.Leads.{lead_monomials, LeadsOf};
 ghost use Rattle.staircase.specs.Places.{DividesTerm, DividedByAnother, FirstDivided};
 ghost use Rattle.staircase.specs.Sound.{Sound};
@@ -14,7 +16,12 @@ use monomial::count::Variables;
 fn divides_term(d: Monomial, g: &[LineTerm], n: Variables) -> bool
     ensures { (result ≡ true) ↔ DividesTerm n (row n d) g.now }
 {
-    g.iter().any(|t| d.divides(t.monomial, n))
+    (0..g.len()).any(
+        |k|
+            requires { k < length g.now }
+            ensures { result ≡ divides n (row n d) (row n (monomial_at g.entry.now k)) }
+        { d.divides(g[k].monomial, n) },
+    )
 }
 
 // Whether the leading monomial of a line other than line i divides a monomial of g.

@@ -1,5 +1,7 @@
 // Leading monomials, and the test for their multiples.
-ghost use Rattle.std.specs.Prelude.{◌≡◌};
+ghost use Rattle.std.specs.Prelude.{◌≡◌, ◌<◌, length, get_or};
+ghost use Rattle.monomial.specs.Rows.{one};
+ghost use Rattle.monomial.specs.Quotients.{divides};
 ghost use Rattle.monomial.specs.Represented.{row};
 ghost use Rattle.staircase.specs.Leads.{lead_monomials, leads_in, multiple};
 
@@ -17,8 +19,8 @@ pub fn leads_of(basis: &StoredBasis) -> Leads
     ensures { result.items ≡ leads_in basis.now }
 {
     let mut l = Leads::new();
-    for g in basis.lines.iter() {
-        l.push(lead(g));
+    for i in 0..basis.lines.len() {
+        l.push(lead(&basis.lines[i]));
     }
     l
 }
@@ -27,5 +29,10 @@ pub fn leads_of(basis: &StoredBasis) -> Leads
 pub fn multiple(leads: &[Monomial], m: Monomial, n: Variables) -> bool
     ensures { result ≡ multiple n (lead_monomials n leads.now) (row n m) }
 {
-    leads.iter().any(|d| d.divides(m, n))
+    (0..leads.len()).any(
+        |k|
+            requires { k < length leads.now }
+            ensures { result ≡ divides n (get_or (lead_monomials n leads.entry.now) k (one n)) (row n m) }
+        { leads[k].divides(m, n) },
+    )
 }

@@ -30,7 +30,6 @@ use Rattle.lists.specs.Lists.{Bytes}
 use Rattle.std.specs.Prelude.{Option, Some, None, MatchOption}
 use Rattle.std.specs.Borrow.{Bor}
 use Rattle.std.specs.Char.{is_ascii_lowercase, IsAsciiDigit, IsNotAsciiDigit}
-use Rattle.std.specs.Option.{option_eq}
 use Rattle.std.specs.Slice.{IsItemAt}
 use Rattle.tabtext.specs.Readers.{got, bad, first, starts_with, read_byte, tab_ahead, letter, digit}
 use Rattle.tabtext.specs.Answers.{DigitSays}
@@ -141,9 +140,9 @@ pub letter-found : (s : Bytes) (i : ℕ) (r : Option (Bor ℕ)) {t : Bool} → I
 letter-found s i (Some b) g e = e ∙ sym (letter-of _ _ (byte-found s i b g))
 letter-found s i None g e = e ∙ sym (letter-not (drop i s) 0 (sym (first_past s i g.3)) (omega arith))
 
-pub starts-found : (s : Bytes) (i : ℕ) (r : Option (Bor ℕ)) (b : Bor ℕ) → IsItemAt s i r → option_eq (λ x y. eqb x.now y.now) r (Some b) ≡ starts_with b.now (drop i s)
-starts-found s i (Some a) b g = ap (λ x. eqb x b.now) (g.3.1 0) ∙ sym (starts-at b.now s i g.3.0)
-starts-found s i None b g = sym (starts-past b.now s i g.3)
+pub starts-found : (s : Bytes) (i b : ℕ) (r : Option (Bor ℕ)) {t : Bool} → IsItemAt s i r → MatchOption r (t ≡ false) (λ a. t ≡ eqb a.now b) → t ≡ starts_with b (drop i s)
+starts-found s i b (Some a) g e = e ∙ ap (λ x. eqb x b) (g.3.1 0) ∙ sym (starts-at b s i g.3.0)
+starts-found s i b None g e = e ∙ sym (starts-past b s i g.3)
 
 pub digit-found : (s : Bytes) (i : ℕ) (b : Bor ℕ) → IsItemAt s i (Some b) → IsAsciiDigit b.now → DigitSays s i (Some (b.now - 48))
 digit-found s i b g d = (sym (digit-is _ _ (byte-found s i b g) d.0 d.1), omega (arith, d.1))

@@ -54,12 +54,12 @@ module _ (s : Bytes) (at n sep : ℕ) where
     count : length (take j row) ≡ j
     count = length-take-le j row (omega (arith, inv.most, inv.room))
 
-    pub turn : {v k : ℕ} → j < n → Reading (read_exponent j) s i v k → ExponentsInv s at n sep (set row j v) k (j + 1)
-    turn {v} {k} h e =
+    pub turn : {v k place : ℕ} → j < n → Reading (read_exponent j) s i v k → place ≡ j → ExponentsInv s at n sep (set row place v) k (j + 1)
+    turn {v} {k} h e p =
         let less : n - j - 1 ≡ n - (j + 1) = omega arith in
         let within : j < length row = omega (arith, inv.room) in
         let more : read_exponent (length (take j row)) (drop i s) ≡ got v (drop k s) = rw count e.reads in
-        record {
+        rw p record {
           rest = inv.rest ∙ exponents-more (n - j) (take j row) (drop i s) (omega arith) more ∙ rw (less, add-one j, take-suc-set);
           after = omega (arith, inv.after, e.after);
           inside = e.inside;

@@ -73,7 +73,8 @@ fn print_fields<S: Sink, T, F: Fn(&mut S, &T)>(sink: &mut S, word: &[u8], items:
         (sink.new ≡ S.after sink.old line) × (length line ≤ length word.now + (f.most + 1) * length items.now + 1) }
 {
     sink.put_bytes(word);
-    for x in items {
+    for j in 0..items.len() {
+        let x = &items[j];
         sink.put(b'\t');
         field(&mut *sink, x);
     }

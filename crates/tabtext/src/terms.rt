@@ -18,7 +18,7 @@ pub struct RawTerm {
 pub fn byte_is(text: &[u8], i: usize, byte: u8) -> bool
     ensures { result ≡ starts_with byte (drop i text.now) }
 {
-    text.get(i) == Some(&byte)
+    text.get(i).map_or(false, |&b| b == byte)
 }
 
 // A byte.

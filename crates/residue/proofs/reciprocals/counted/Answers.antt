@@ -1,6 +1,9 @@
 -- `counted` meets its contract. The loop's invariant: b is at most the reciprocal of a, and the multiple is the product of a and b.
-use mathlib.Core.Path.{sym, ◌∙◌}
+use mathlib.Core.Path.{◌≡◌, sym, ◌∙◌, subst}
+use Prim.Native.Nat.{◌<◌}
+use native.Mathlib.Omega.{arith}
 use borrow.Author.Tests.{eqb-true, eqb-false}
+use Rattle.residue.specs.Modular.{product_mod}
 use Rattle.residue.proofs.Counting.{counting-start, counting-below, counting-turn, counting-stop, counting-last}
 use Rattle.residue.proofs.reciprocals.counted.Goals as goal
 
@@ -22,7 +25,7 @@ add-multiple-requires c =
 pub returns-then-eq : goal.returns-then-eq
 returns-then-eq c =
     let s = counting-stop _ _ _ _ c.loop-b.invariant (eqb-true _ _ (sym c.eq.ensures ∙ c.if-eq.true)) in
-    (s.inverse, s.below)
+    subst (λ r. (product_mod c.args.field.p c.args.a.0 r ≡ 1) × (r < c.args.field.p)) (omega arith) (s.inverse, s.below)
 
 pub loop-b-preserved : goal.loop-b-preserved
 loop-b-preserved c =

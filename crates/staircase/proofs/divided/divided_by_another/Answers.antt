@@ -12,13 +12,13 @@ loop-j-init c = λ k h. absurd (omega arith)
 
 pub returns-then-divides_term : goal.returns-then-divides_term
 returns-then-divides_term c =
-    Iff.trans (sought-found c.loop-j.j (omega arith) (c.if-other.true, c.divides_term.ensures.0 c.if-divides_term.true))
+    Iff.trans (sought-found c.loop-j.j (omega arith) (λ e. c.if-other.true (omega arith), c.divides_term.ensures.0 c.if-divides_term.true))
     (Iff.symm (divided-by-another-iff _ _ _ _))
 
 pub loop-j-preserved : goal.loop-j-preserved
 loop-j-preserved c = below_more _ _ c.loop-j.invariant (elim c.else-other.branch [
   | else-other-via-then-other+else-divides_term w ↦ λ (d, t). denied w.divides_term.ensures w.if-divides_term.false t
-  | else-other-via-else-other w ↦ λ (d, t). d w.if-other.false
+  | else-other-via-else-other w ↦ λ (d, t). d (omega arith)
 ])
 
 pub returns : goal.returns

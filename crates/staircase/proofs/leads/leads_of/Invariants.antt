@@ -4,5 +4,5 @@ use lib.ListN.{take}
 use Rattle.staircase.specs.Leads.{leads_in}
 use Rattle.staircase.proofs.leads.leads_of.Given as goal
 
-abbrev pub invariant-loop-g : goal.invariant-loop-g
-invariant-loop-g l = l.l.items ≡ take l.g-index (leads_in l.basis)
+abbrev pub invariant-loop-i : goal.invariant-loop-i
+invariant-loop-i l = l.l.items ≡ take l.i (leads_in l.basis)

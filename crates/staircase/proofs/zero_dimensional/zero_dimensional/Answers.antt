@@ -16,4 +16,4 @@ returns c =
     let power : ℕ → Type 0 = λ v. PowerIn a.n v (lead_monomials a.n a.leads.now) in
     each-iff power a.n c.all.result
     (cases_from_all _ _ c.all.result (λ v. (true ≡ true) ↔ power v) (λ v. (false ≡ true) ↔ power v) c.all.ensures.ran
-    (YieldsList-from_range 0 c.count.result a.n refl (omega arith)) (λ x q k. search (rules, tests)) (λ x q k. search (rules, tests)))
+    (YieldsList-from_range 0 _ a.n refl (omega arith)) (λ x q k. search (rules, tests)) (λ x q k. search (rules, tests)))

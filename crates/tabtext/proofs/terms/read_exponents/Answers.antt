@@ -13,7 +13,7 @@ pub returns-in_err-v : goal.returns-in_err-v
 returns-in_err-v c = rw c.from_residual-in_err-v.ensures (no-exponent _ _ _ _ _ _ _ c.loop-j.invariant (omega arith) c.in_err-v.ensures)
 
 pub loop-j-preserved : goal.loop-j-preserved
-loop-j-preserved c = turn _ _ _ _ _ _ _ c.loop-j.invariant (omega arith) c.in_ok-v.ensures
+loop-j-preserved c = turn _ _ _ _ _ _ _ c.loop-j.invariant (omega arith) c.in_ok-v.ensures (omega arith)
 
 pub returns : goal.returns
 returns c = stop _ _ _ _ _ _ _ c.loop-j.invariant (omega arith)
